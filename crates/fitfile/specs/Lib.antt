@@ -1,0 +1,5 @@
+pub mod Bytes
+pub mod Header
+pub mod Refusals
+pub mod Sections
+pub mod Whole
