@@ -30,7 +30,7 @@ drop-offers h bs (suc k) =
 tiled : (h : Header) (bs : List ℕ) → length bs ≡ fileLength h → bs ≡ take rowsAt bs ++ (cut rowsAt (8 * (h .rows * h .columns)) bs ++ (cut (figuresAt h) (8 * h .rows) bs ++ offersOf h bs (h .offers)))
 tiled h bs long =
     let offers : drop (offersAt h) bs ≡ offersOf h bs (h .offers) =
-        drop-offers h bs (h .offers) ∙ ap (λ (r : List ℕ). offersOf h bs (h .offers) ++ r) (drop-all (fileLength h) bs (omega arith)) ∙ append-nil (offersOf h bs (h .offers)) in
+    drop-offers h bs (h .offers) ∙ ap (λ (r : List ℕ). offersOf h bs (h .offers) ++ r) (drop-all (fileLength h) bs (omega arith)) ∙ append-nil (offersOf h bs (h .offers)) in
     let figures = drop-cut (figuresAt h) (8 * h .rows) bs ∙ ap (λ (r : List ℕ). cut (figuresAt h) (8 * h .rows) bs ++ r) offers in
     let rows = drop-cut rowsAt (8 * (h .rows * h .columns)) bs ∙ ap (λ (r : List ℕ). cut rowsAt (8 * (h .rows * h .columns)) bs ++ r) figures in
     sym (take-append-drop rowsAt bs) ∙ ap (λ (r : List ℕ). take rowsAt bs ++ r) rows

@@ -20,7 +20,7 @@ getD-chunked n (suc k) xs (suc i) d h =
 pub word-chunk : (n k : ℕ) (bs : List ℕ) (i o : ℕ) (d : List ℕ) → i < k → o + 4 ≤ n → word (getD (chunked n k bs) i d) o ≡ word bs (i * n + o)
 word-chunk n k bs i o d h room =
     let byte : (j p : ℕ) → j < n → i * n + j ≡ p → getD (getD (chunked n k bs) i d) j 0 ≡ getD bs p 0 =
-        λ j p below e. ap (λ (c : List ℕ). getD c j 0) (getD-chunked n k bs i d h) ∙ getD-take n (drop (i * n) bs) j 0 below ∙ getD-drop (i * n) bs j 0 ∙ ap (λ (q : ℕ). getD bs q 0) e in
+    λ j p below e. ap (λ (c : List ℕ). getD c j 0) (getD-chunked n k bs i d h) ∙ getD-take n (drop (i * n) bs) j 0 below ∙ getD-drop (i * n) bs j 0 ∙ ap (λ (q : ℕ). getD bs q 0) e in
     let b0 = byte o (i * n + o) (omega arith) (omega arith) in
     let b1 = byte (o + 1) (i * n + o + 1) (omega arith) (omega arith) in
     let b2 = byte (o + 2) (i * n + o + 2) (omega arith) (omega arith) in

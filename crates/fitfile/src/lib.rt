@@ -19,6 +19,7 @@ pub use refusal::OfferRefusal;
 pub use section::Kind;
 pub use section::Part;
 pub use section::Section;
+pub use section::offer_kind;
 
 // The counts that a file's header gives.
 pub fn header(bytes: &[u8]) -> Result<Header, FileRefusal>

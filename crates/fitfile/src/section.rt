@@ -60,8 +60,8 @@ impl<'a> Section<'a> {
     }
 }
 
-// The arithmetic that an offer's bytes ask for.
-pub fn kind_of(offer: &[u8]) -> Result<Kind, OfferRefusal>
+// The arithmetic that an offer's bytes ask for, by their first two words.
+pub fn offer_kind(offer: &[u8]) -> Result<Kind, OfferRefusal>
     ensures { λ r. ⌜ r ≡ kindOf (now (offer .entry)) ⌝ }
 {
     match offer {

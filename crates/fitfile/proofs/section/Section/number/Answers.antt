@@ -27,8 +27,8 @@ returns-in-Some c =
     let many : length (c .as-chunks .result .0 .now) ≡ length bs / 8 = c .as-chunks .ensures .front-len ∙ ap (λ (xs : List ℕ). length xs / 8) (c .numbers .ensures) in
     let below : c .args .index < length bs / 8 = omega (arith, item .3 .0) in
     let same : bits (c .in-Some .bytes .now) 0 ≡ bits bs (8 * c .args .index) =
-        ap (λ (b : List ℕ). bits b 0) (item .3 .1 [] ∙ ap (λ (cs : List (List ℕ)). getD cs (c .args .index) []) cut) ∙ bits-chunk (length bs / 8) bs (c .args .index) [] below in
+    ap (λ (b : List ℕ). bits b 0) (item .3 .1 [] ∙ ap (λ (cs : List (List ℕ)). getD cs (c .args .index) []) cut) ∙ bits-chunk (length bs / 8) bs (c .args .index) [] below in
     let f : SFits w64 (c .from-le-bytes .result) = search needs in
     let value : toZ w64 (ofZ w64 (c .from-le-bytes .result)) ≡ number bs (8 * c .args .index) =
-        toZ-ofZ w64 (c .from-le-bytes .result) f ∙ c .from-le-bytes .ensures ∙ ap (toZ w64) (omega (arith, same)) in
+    toZ-ofZ w64 (c .from-le-bytes .result) f ∙ c .from-le-bytes .ensures ∙ ap (toZ w64) (omega (arith, same)) in
     found (plain (c .args .self .now)) (c .args .index) (toZ w64 (ofZ w64 (c .from-le-bytes .result))) below value
