@@ -1,0 +1,15 @@
+// Prints the book of each fit file that the arguments name.
+use std::env;
+use std::fs;
+use std::io;
+use std::io::Write;
+
+fn main(rt: LibcRuntime) -> io::Result<()> {
+    for name in env::args(&rt)?.skip(1) {
+        let input = fs::read(&rt, name.as_str())?;
+        let text = report::print(rt.alloc(), input.as_slice())?;
+        print!(rt, "{name}: ")?;
+        rt.stdout().write_all(text.as_slice())?;
+    }
+    Ok(())
+}

@@ -1,0 +1,8 @@
+use Rattle.std.specs.Of.Vec.{vec-items}
+use Rattle.printout.specs.Lines.{bookLine}
+use Rattle.report.proofs.Making.{added}
+use Rattle.report.proofs.add_book.Needs as need
+
+pub returns : need.returns
+returns c =
+    added (bookLine (c .args .rows) (c .args .columns)) (vec-items (c .args .text .now)) (c .add-line .result) (c .book-length .ensures .answer) (c .book-length .ensures .buffer) (c .add-line .ensures)
