@@ -4,6 +4,11 @@ use std::fs;
 use std::io;
 use std::io::Write;
 
+#[cfg(test)]
+mod lines;
+#[cfg(test)]
+mod reading;
+
 fn main(rt: LibcRuntime) -> io::Result<()> {
     for name in env::args(&rt)?.skip(1) {
         let input = fs::read(&rt, name.as_str())?;

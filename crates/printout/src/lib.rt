@@ -15,6 +15,9 @@ use interval::middle_of;
 use part::Part;
 use part::put_line;
 pub use refusal::Refusal;
+pub use refusal::RefusalDebug;
+pub use refusal::RefusalEq;
+pub use refusal::RefusalPartialEq;
 
 // `book M N`: the numbers of rows and columns.
 pub fn book(buffer: &mut [u8], rows: u8, columns: u8) -> Result<usize, Refusal>
