@@ -9,7 +9,7 @@ use Rattle.std.proofs.shelf.Lists.{drop-drop, getD-drop, getD-take}
 use Rattle.std.specs.Vectors.{chunked}
 use Rattle.fitfile.specs.Bytes.{word, bits}
 
-getD-chunked : {X : Type 0} (n k : ℕ) (xs : List X) (i : ℕ) (d : List X) → i < k → getD (chunked n k xs) i d ≡ take n (drop (i * n) xs)
+pub getD-chunked : {X : Type 0} (n k : ℕ) (xs : List X) (i : ℕ) (d : List X) → i < k → getD (chunked n k xs) i d ≡ take n (drop (i * n) xs)
 getD-chunked n zero xs i d h = absurd (omega arith)
 getD-chunked n (suc k) xs zero d h = ap (λ (j : ℕ). take n (drop j xs)) {x = 0} (omega arith)
 getD-chunked n (suc k) xs (suc i) d h =

@@ -3,3 +3,4 @@ pub mod Header
 pub mod Refusals
 pub mod Sections
 pub mod Whole
+pub mod Writing

@@ -5,6 +5,7 @@ ghost use lib.ListN.{length};
 ghost use Rattle.std.specs.Vec.{made};
 ghost use Rattle.fitfile.specs.Header.{headerOf};
 ghost use Rattle.fitfile.specs.Whole.{Whole};
+ghost use Rattle.fitfile.specs.Writing.{FitText, Proper, fileOf, ReadBack};
 ghost use Rattle.fitfile.specs.Sections.{shown, shownAt, cut, rowsOf, figuresOf, offerOf};
 
 mod layout;
@@ -37,6 +38,7 @@ pub use section::offer_kind;
 pub fn header(bytes: &[u8]) -> Result<Header, FileRefusal>
     ensures value { λ r. ⌜ r ≡ headerOf (now (bytes .entry)) ⌝ }
     ensures whole { λ r. ⌜ made r (λ h. Whole h (now (bytes .entry))) ⌝ }
+    ensures read_back { λ _. ⌜ ((f : FitText) → Proper f → now (bytes .entry) ≡ fileOf f → ReadBack f (now (bytes .entry))) ⌝ }
 {
     let words = Words::read(bytes).ok_or(FileRefusal::WrongLength)?;
     if words.file_length != bytes.len() {
