@@ -65,6 +65,10 @@ def printed(data):
     return f"book {m} {n}\n"
 
 
+def grains(values):
+    return [round(value * G) for value in values]
+
+
 # The files
 
 def single():
@@ -79,16 +83,19 @@ def corner():
 
 
 def coupons():
-    """Six coupons of one printer: scale error, shrinkage by length, and skew.
+    """Six coupons of one printer, three figures: a fixed excess, growth with length, and growth with the print angle.
 
-    A row has 1, the coupon's length and its angle (in fractions of the largest), and the measured excess in millimetres.
+    A row has 1, the coupon's length as a part of the longest, and 0 or 1 for its angle; its figure is the measured excess in
+    millimetres. S is near the inverse of the triangular factor of A, x near the solution, w near A x - b.
     """
-    rows = [[1.0, 0.25, 0.0], [1.0, 0.25, 1.0], [1.0, 0.5, 0.0], [1.0, 0.5, 1.0], [1.0, 1.0, 0.0], [1.0, 1.0, 1.0]]
-    excess = [0.125, 0.1875, 0.15625, 0.21875, 0.21875, 0.28125]
-    s = [1.0, -1.125, -0.625, 1.3125, 0.0, 0.8125]
-    x = [0.09375, 0.125, 0.0625]
-    grains = lambda values: [round(v * G) for v in values]
-    return fit_file([grains(r) for r in rows], grains(excess), [offer(1, grains(s), grains(x), [0] * 6)])
+    rows = [[1, 0.25, 0], [1, 0.25, 1], [1, 0.5, 0], [1, 0.5, 1], [1, 1, 0], [1, 1, 1]]
+    excess = [0.126, 0.187, 0.155, 0.220, 0.219, 0.281]
+    s = [0.408248, -0.763763, -0.408248, 1.309307, 0, 0.816497]
+    x = [1575660, 2092359, 1051372]
+    rows = [grains(row) for row in rows]
+    figures = grains(excess)
+    w = [sum(a * c for a, c in zip(row, x)) // G - b for row, b in zip(rows, figures)]
+    return fit_file(rows, figures, [offer(1, grains(s), x, w)])
 
 
 def largest():

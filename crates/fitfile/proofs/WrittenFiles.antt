@@ -34,9 +34,9 @@ use Rattle.fitfile.specs.declared.refusal.FileRefusal.the-variants.{WrongLengt
 use Rattle.fitfile.specs.declared.refusal.OfferRefusal.the-variants.{UnknownKind}
 use Rattle.fitfile.specs.Bytes.{word, bits, number}
 use Rattle.fitfile.specs.Header.{headerOf, wordsOf, countsOf, agrees, lengthAgrees, rowsAt, figuresAt, offersAt, offerLength, fileLength, inRange}
-use Rattle.fitfile.specs.Sections.{Plain, numbers, numberAt, cut, offerOf}
+use Rattle.fitfile.specs.Sections.{Plain, numbers, numberAt, cut, offerOf, kindBy}
 use Rattle.fitfile.specs.Sections as sections
-use Rattle.fitfile.specs.Writing.{OfferText, FitText, countsIn, numberBytes, numbersBytes, offerBytes, headerBytes, fileOf, ProperOffer, Proper, rowsIn, figuresIn, offerIn, kindBy, OfferBack, ReadBack}
+use Rattle.fitfile.specs.Writing.{OfferText, FitText, countsIn, numberBytes, numbersBytes, offerBytes, headerBytes, fileOf, ProperOffer, Proper, rowsIn, figuresIn, offerIn, OfferBack, ReadBack}
 use Rattle.fitfile.proofs.Chunks.{getD-chunked, bits-chunk}
 
 -- the four bytes of a word spell it

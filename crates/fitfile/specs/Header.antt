@@ -1,9 +1,8 @@
 -- The header of a fit file: its words, the layout that its counts ask for, and when a file is refused. Assumes nothing.
 -- Places and lengths are in bytes; a place counts from the start of the file.
-use mathlib.Core.Path.{_≡_}
 use mathlib.Core.Bool.{Bool, cond, _&&_}
 use mathlib.Core.List.{List}
-use Prim.Native.Nat.{ℕ, _+_, _*_, _/_, _≤_}
+use Prim.Native.Nat.{ℕ, _+_, _*_, _/_}
 use lib.Dec.{eqb, leb}
 use lib.ListN.{length}
 use Rattle.std.specs.declared.result.Result.{Result}

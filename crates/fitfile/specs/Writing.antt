@@ -1,27 +1,21 @@
 -- The format from its writer's side: the file of a fit, and what it is for a file to be read back as that fit. Assumes nothing.
 -- Places and lengths are in bytes; a place counts from the start of the file.
 use mathlib.Core.Path.{_≡_}
-use mathlib.Core.Bool.{true, cond}
+use mathlib.Core.Bool.{true}
 use mathlib.Core.List.{List, [], _∷_, _++_}
 use Prim.Native.Nat.{ℕ, _+_, _*_, _/_, _%_, _^_, _<_}
-use lib.Dec.{eqb}
 use lib.IntN.{ℤ}
 use lib.ListN.{length}
 use mir.Syntax.{w64}
 use mir.Val.{ofZ, SFits}
-use Rattle.std.specs.declared.result.Result.{Result}
-use Rattle.std.specs.declared.result.Result.the-variants.{Ok, Err}
+use Rattle.std.specs.declared.result.Result.the-variants.{Ok}
 use Rattle.std.specs.Finite.{nth}
 use Rattle.std.specs.Joined.{joined}
 use Rattle.std.specs.Options as options
 use Rattle.std.specs.shelf.Lists.{All}
 use Rattle.fitfile.specs.declared.layout.Header.{Header}
-use Rattle.fitfile.specs.declared.refusal.OfferRefusal.{OfferRefusal}
-use Rattle.fitfile.specs.declared.refusal.OfferRefusal.the-variants.{UnknownKind}
-use Rattle.fitfile.specs.declared.section.Kind.{Kind}
-use Rattle.fitfile.specs.declared.section.Kind.the-variants.{Ends, Centre}
 use Rattle.fitfile.specs.Header.{headerOf, rowsAt, figuresAt, offersAt, offerNumbers, offerLength, fileLength, inRange}
-use Rattle.fitfile.specs.Sections.{Plain, rows, figures, offer, rowsOf, figuresOf, offerOf, numberAt, kindOf}
+use Rattle.fitfile.specs.Sections.{Plain, rows, figures, offer, rowsOf, figuresOf, offerOf, numberAt, kindBy, kindOf}
 
 -- an offer as it is written: its kind word, and the numbers of S, x and w one after the other
 pub record OfferText : Type 0 where
@@ -90,10 +84,6 @@ figuresIn f = figures (figuresAt (countsIn f)) (numbersBytes (f .figures))
 -- an offer of a fit's file, with its place, where it is the one at the index i
 abbrev pub offerIn : FitText → ℕ → OfferText → Plain
 offerIn f i o = offer (offersAt (countsIn f) + i * offerLength (countsIn f)) (offerBytes o)
-
--- the arithmetic that a kind word asks for
-abbrev pub kindBy : ℕ → Result Kind OfferRefusal
-kindBy k = cond (eqb k 1) (Ok Ends) (cond (eqb k 2) (Ok Centre) (Err UnknownKind))
 
 -- an offer's bytes are read as the offer: its kind, each number, and none past the last one
 pub record OfferBack (o : OfferText) : Type 0 where
