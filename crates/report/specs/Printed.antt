@@ -1,6 +1,6 @@
 -- What is printed of a fit file. Assumes nothing.
 use mathlib.Core.Bool.{cond}
-use mathlib.Core.List.{List, [], _++_}
+use mathlib.Core.List.{List, [], _∷_, _++_}
 use Prim.Native.Nat.{ℕ}
 use lib.ListN.{take}
 use Rattle.std.specs.declared.result.Result.{Result}
@@ -10,7 +10,7 @@ use Rattle.fitfile.specs.declared.Header.{Header}
 use Rattle.fitfile.specs.declared.FileRefusal.{FileRefusal}
 use Rattle.fitfile.specs.Header.{headerOf}
 use Rattle.fitfile.specs.Refusals.{fileNumber}
-use Rattle.printout.specs.Lines.{bookLine, fileRefusedLine}
+use Rattle.printout.specs.Printouts.{Line, book, fileRefused, textOf}
 
 -- the line that begins a buffer, by the answer of the call that made it
 abbrev pub lineIn : {E : Type 0} → List ℕ → Result ℕ E → List ℕ
@@ -22,10 +22,14 @@ abbrev pub grown : {T E : Type 0} → List ℕ → List ℕ → Result T E → L
 grown text more r = cond (isOk r) (text ++ more) text
 
 -- the lines after the reader's answer: the counts of the book, or why the file is refused
-abbrev pub linesOf : Result Header FileRefusal → List ℕ
-linesOf (Ok h) = bookLine (h .rows) (h .columns)
-linesOf (Err e) = fileRefusedLine (fileNumber e)
+abbrev pub linesAfter : Result Header FileRefusal → List Line
+linesAfter (Ok h) = book (h .rows) (h .columns) ∷ []
+linesAfter (Err e) = fileRefused (fileNumber e) ∷ []
+
+-- the lines of a file's printout
+abbrev pub linesOf : List ℕ → List Line
+linesOf bs = linesAfter (headerOf bs)
 
 -- the whole printout of a file
 abbrev pub printed : List ℕ → List ℕ
-printed bs = linesOf (headerOf bs)
+printed bs = textOf (linesOf bs)
