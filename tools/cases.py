@@ -129,6 +129,7 @@ def cases():
     yield "smallest", fit_file([[0]], [0], [])
     yield "wide", fit_file([[G] * 8], [G], [])
     yield "largest", largest()
+    yield "unknown-kind", good[:48] + struct.pack("<I", 3) + good[52:]
     yield "second-word", good[:52] + struct.pack("<I", 1) + good[56:]
     # the length of the file
     yield "empty", b""

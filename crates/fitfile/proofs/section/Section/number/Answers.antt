@@ -19,6 +19,10 @@ use Rattle.fitfile.proofs.section.Section.number.Needs as need
 found : (p : Plain) (i : ℕ) (v : ℤ) → i < length (numbers p) / 8 → v ≡ number (numbers p) (8 * i) → Some v ≡ numberAt p i
 found p i v h e = grind (arith, tells)
 
+-- a number that the machine holds, by the bytes that it was made from
+spelled : (z : ℤ) (n m : ℕ) → SFits w64 z → z ≡ toZ w64 n → n ≡ m → toZ w64 (ofZ w64 z) ≡ toZ w64 m
+spelled z n m f e p = toZ-ofZ w64 z f ∙ e ∙ ap (toZ w64) p
+
 pub returns-in-Some : need.returns-in-Some
 returns-in-Some c =
     let bs : List ℕ = numbers (plain (c .args .self .now)) in
@@ -29,6 +33,5 @@ returns-in-Some c =
     let same : bits (c .in-Some .bytes .now) 0 ≡ bits bs (8 * c .args .index) =
     ap (λ (b : List ℕ). bits b 0) (item .3 .1 [] ∙ ap (λ (cs : List (List ℕ)). getD cs (c .args .index) []) cut) ∙ bits-chunk (length bs / 8) bs (c .args .index) [] below in
     let f : SFits w64 (c .from-le-bytes .result) = search needs in
-    let value : toZ w64 (ofZ w64 (c .from-le-bytes .result)) ≡ number bs (8 * c .args .index) =
-    toZ-ofZ w64 (c .from-le-bytes .result) f ∙ c .from-le-bytes .ensures ∙ ap (toZ w64) (omega (arith, same)) in
+    let value = spelled (c .from-le-bytes .result) _ (bits bs (8 * c .args .index)) f (c .from-le-bytes .ensures) (omega (arith, same)) in
     found (plain (c .args .self .now)) (c .args .index) (toZ w64 (ofZ w64 (c .from-le-bytes .result))) below value
