@@ -1,11 +1,14 @@
 // Makes the whole printout of a fit file, from the file's bytes.
 ghost use mathlib.Core.Path.{_≡_};
+ghost use mathlib.Core.List.{List};
 ghost use lib.ListN.{take};
 ghost use Rattle.std.specs.Of.Vec.{vec-items};
 ghost use Rattle.std.specs.Vec.{made};
-ghost use Rattle.report.specs.Printed.{printed, grown, lineIn};
+ghost use Rattle.std.specs.shelf.Lists.{All};
+ghost use Rattle.report.specs.Printed.{linesOf, printed, grown, lineIn};
 ghost use Rattle.fitfile.specs.Refusals.{fileNumber};
 ghost use Rattle.printout.specs.Lines.{bookLine, fileRefusedLine};
+ghost use Rattle.printout.specs.Printouts.{Line, Fits64, textOf};
 use fitfile::FileRefusal;
 use std::alloc::AllocError;
 use std::alloc::Global;
@@ -59,7 +62,8 @@ fn add_file_refused(text: &mut Vec<u8>, refusal: FileRefusal) -> Result<(), Allo
 
 // What is printed of an input, or there is no memory for it.
 pub fn print(heap: Global, input: &[u8]) -> Result<Vec<u8>, AllocError>
-    ensures { λ r. ⌜ made r (λ text. vec-items text ≡ printed (take 65536 (now (input .entry)))) ⌝ }
+    ensures text { λ r. ⌜ made r (λ text. vec-items text ≡ printed (take 65536 (now (input .entry)))) ⌝ }
+    ensures one_reading { λ r. ⌜ made r (λ text. (ls : List Line) → All Fits64 ls → textOf ls ≡ vec-items text → ls ≡ linesOf (take 65536 (now (input .entry)))) ⌝ }
 {
     let mut text = Vec::new(heap);
     match fitfile::header(front(input, MOST)) {
