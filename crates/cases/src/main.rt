@@ -12,7 +12,8 @@ mod reading;
 fn main(rt: LibcRuntime) -> io::Result<()> {
     for name in env::args(&rt)?.skip(1) {
         let input = fs::read(&rt, name.as_str())?;
-        let text = report::print(rt.alloc(), input.as_slice())?;
+        let mut text = Vec::new(rt.alloc());
+        report::print(&mut text, input.as_slice())?;
         print!(rt, "{name}: ")?;
         rt.stdout().write_all(text.as_slice())?;
     }

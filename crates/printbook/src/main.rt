@@ -8,6 +8,7 @@ fn main(rt: LibcRuntime) -> io::Result<()> {
     rt.stdin()
         .take(report::MOST as u64)
         .read_to_end(&mut input)?;
-    let text = report::print(rt.alloc(), input.as_slice())?;
+    let mut text = Vec::new(rt.alloc());
+    report::print(&mut text, input.as_slice())?;
     rt.stdout().write_all(text.as_slice())
 }

@@ -17,7 +17,7 @@ abbrev pub lineIn : {E : Type 0} → List ℕ → Result ℕ E → List ℕ
 lineIn buffer (Ok n) = take n buffer
 lineIn buffer (Err e) = []
 
--- a text after a call that was to add some bytes to it: with them, or as it was where there was no memory
+-- a text after a call that was to add some bytes to it: with them, or as it was where the call failed
 abbrev pub grown : {T E : Type 0} → List ℕ → List ℕ → Result T E → List ℕ
 grown text more r = cond (isOk r) (text ++ more) text
 

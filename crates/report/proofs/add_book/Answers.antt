@@ -5,4 +5,4 @@ use Rattle.report.proofs.add_book.Needs as need
 
 pub returns : need.returns
 returns c =
-    added (bookLine (c .args .rows) (c .args .columns)) (vec-items (c .args .text .now)) (c .add-line .result) (c .book-length .ensures .answer) (c .book-length .ensures .buffer) (c .add-line .ensures)
+    added (bookLine (c .args .rows) (c .args .columns)) (vec-items (c .args .text .now)) (c .book-answer .ensures .answer) (c .book-answer .ensures .buffer) (c .add-line .ensures)
