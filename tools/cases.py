@@ -4,8 +4,8 @@
     tools/cases.py            writes examples/*.fit and the inputs and outputs of the crates printbook and cases
     tools/cases.py --check    says whether the stored files are those that it would write
 
-The reader below is this script's own, written from docs/FORMAT.md and not from the Rattle sources:
-what the programs print is compared with it to the byte.
+The reader below is a second one, in another language, and shares no code with the Rattle sources; what the programs
+print is compared with it to the byte. Both have the same author, so a rule that was misread would be misread in both.
 """
 import pathlib
 import struct
@@ -85,8 +85,8 @@ def corner():
 def coupons():
     """Six coupons of one printer, three figures: a fixed excess, growth with length, and growth with the print angle.
 
-    A row has 1, the coupon's length as a part of the longest, and 0 or 1 for its angle; its figure is the measured excess in
-    millimetres. S is near the inverse of the triangular factor of A, x near the solution, w near A x - b.
+    A row has 1, the coupon's length as a part of the longest, and 0 or 1 for its angle; its figure is an excess in millimetres.
+    The figures are made up for the example, and no printer was measured. S is near the inverse of the triangular factor of A, x near the solution, w near A x - b.
     """
     rows = [[1, 0.25, 0], [1, 0.25, 1], [1, 0.5, 0], [1, 0.5, 1], [1, 1, 0], [1, 1, 1]]
     excess = [0.126, 0.187, 0.155, 0.220, 0.219, 0.281]

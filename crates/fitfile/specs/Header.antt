@@ -39,7 +39,7 @@ rowsAt = 32
 abbrev pub figuresAt : Header → ℕ
 figuresAt h = rowsAt + 8 * (h .rows * h .columns)
 
--- the offers begin after the figures, one for each row
+-- the offers begin after the figures, of which each row has one
 abbrev pub offersAt : Header → ℕ
 offersAt h = figuresAt h + 8 * h .rows
 
@@ -51,6 +51,7 @@ offerNumbers h = h .columns * (h .columns + 1) / 2 + h .columns + h .rows
 abbrev pub offerLength : Header → ℕ
 offerLength h = 8 + 8 * offerNumbers h
 
+-- all that comes before the offers, and the offers
 abbrev pub fileLength : Header → ℕ
 fileLength h = offersAt h + h .offers * offerLength h
 

@@ -94,6 +94,7 @@ impl Header {
             && self.offers <= 16
     }
 
+    // Where the figures begin.
     pub(crate) fn figures_at(&self) -> usize
         requires { ⌜ inRange (now self) ≡ true ⌝ }
         ensures { λ r. ⌜ r ≡ figuresAt (now (self .entry)) ⌝ }
@@ -101,6 +102,7 @@ impl Header {
         ROWS_AT + 8 * (self.rows * self.columns)
     }
 
+    // Where the offers begin.
     pub(crate) fn offers_at(&self) -> usize
         requires { ⌜ inRange (now self) ≡ true ⌝ }
         ensures { λ r. ⌜ r ≡ offersAt (now (self .entry)) ⌝ }
@@ -108,6 +110,7 @@ impl Header {
         self.figures_at() + 8 * self.rows
     }
 
+    // The bytes of one offer.
     pub(crate) fn offer_length(&self) -> usize
         requires { ⌜ inRange (now self) ≡ true ⌝ }
         ensures { λ r. ⌜ r ≡ offerLength (now (self .entry)) ⌝ }
@@ -115,6 +118,7 @@ impl Header {
         8 + 8 * (self.columns * (self.columns + 1) / 2 + self.columns + self.rows)
     }
 
+    // The bytes of the whole file.
     pub(crate) fn file_length(&self) -> usize
         requires { ⌜ inRange (now self) ≡ true ⌝ }
         ensures { λ r. ⌜ r ≡ fileLength (now (self .entry)) ⌝ }
