@@ -1,0 +1,5 @@
+pub mod Intervals
+pub mod Rounding
+pub mod Refusals
+pub mod Operations
+pub mod Rules

@@ -1,0 +1,11 @@
+use borrow.Author.Needs.{needs}
+use Rattle.centre.specs.Centre.{settled}
+use Rattle.centre.proofs.settle.Needs as need
+
+pub returns-then-may-stand : need.returns-then-may-stand
+unfolding settled
+returns-then-may-stand c = search needs
+
+pub returns-else-may-stand : need.returns-else-may-stand
+unfolding settled
+returns-else-may-stand c = search needs

@@ -1,0 +1,4 @@
+pub mod Sums
+pub mod Fits
+pub mod Offers
+pub mod Theorems
