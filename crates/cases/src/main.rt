@@ -5,6 +5,8 @@ use std::io;
 use std::io::Write;
 
 #[cfg(test)]
+mod calculating;
+#[cfg(test)]
 mod lines;
 #[cfg(test)]
 mod reading;
