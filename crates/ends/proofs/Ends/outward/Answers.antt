@@ -1,9 +1,10 @@
 use mathlib.Core.Path.{_≡_, _∙_}
+use Prim.Native.Nat.{ℕ, _*_, _^_, _≤_}
 use native.Mathlib.Omega.{arith}
 use borrow.Author.Needs.{needs}
-use lib.IntN.{_*ℤ_}
+use lib.IntN.{ℤ, _*ℤ_, natAbs}
 use mir.Syntax.{w64}
-use mir.Val.{SFits}
+use mir.Val.{SFits, toZ, ofZ}
 use Rattle.std.proofs.shelf.Signed.{toZ-ofZ}
 use Rattle.arithmetic.specs.Intervals.{between}
 use Rattle.arithmetic.specs.Rounding.{floored, ceiled}
@@ -11,29 +12,22 @@ use Rattle.arithmetic.proofs.Products.{product-fits}
 use Rattle.ends.specs.Ends.{kept, outward, least, greatest}
 use Rattle.ends.proofs.Ends.outward.Needs as need
 
+-- a product of two ends, as the code forms it
+fits : (x y : ℤ) {m n : ℕ} → SFits w64 x → SFits w64 y → natAbs x ≤ m → natAbs y ≤ n → m * n ≤ 2 ^ 62
+    → SFits w64 (toZ w64 (ofZ w64 x) *ℤ toZ w64 (ofZ w64 y))
+fits x y {m} {n} fx fy p q small = simp toZ-ofZ (product-fits x y m n p q small)
+
 pub mul-p : need.mul-p
-mul-p c =
-    let x : SFits w64 (c .args .self .low) = search needs in
-    let y : SFits w64 (c .args .other .low) = search needs in
-    simp toZ-ofZ (product-fits (c .args .self .low) (c .args .other .low) _ _ (omega arith) (omega arith) (c .pre))
+mul-p c = fits (c .args .self .low) (c .args .other .low) (search needs) (search needs) (omega arith) (omega arith) (c .pre)
 
 pub mul-q : need.mul-q
-mul-q c =
-    let x : SFits w64 (c .args .self .low) = search needs in
-    let y : SFits w64 (c .args .other .high) = search needs in
-    simp toZ-ofZ (product-fits (c .args .self .low) (c .args .other .high) _ _ (omega arith) (omega arith) (c .pre))
+mul-q c = fits (c .args .self .low) (c .args .other .high) (search needs) (search needs) (omega arith) (omega arith) (c .pre)
 
 pub mul-s : need.mul-s
-mul-s c =
-    let x : SFits w64 (c .args .self .high) = search needs in
-    let y : SFits w64 (c .args .other .low) = search needs in
-    simp toZ-ofZ (product-fits (c .args .self .high) (c .args .other .low) _ _ (omega arith) (omega arith) (c .pre))
+mul-s c = fits (c .args .self .high) (c .args .other .low) (search needs) (search needs) (omega arith) (omega arith) (c .pre)
 
 pub mul-t : need.mul-t
-mul-t c =
-    let x : SFits w64 (c .args .self .high) = search needs in
-    let y : SFits w64 (c .args .other .high) = search needs in
-    simp toZ-ofZ (product-fits (c .args .self .high) (c .args .other .high) _ _ (omega arith) (omega arith) (c .pre))
+mul-t c = fits (c .args .self .high) (c .args .other .high) (search needs) (search needs) (omega arith) (omega arith) (c .pre)
 
 pub returns : need.returns
 unfolding outward least greatest
