@@ -9,6 +9,7 @@ mod refusal;
 mod rounding;
 
 pub use limits::LARGEST;
+pub use limits::ONE;
 pub use limits::may_make;
 pub use limits::may_mean;
 pub use limits::may_multiply;

@@ -1,8 +1,11 @@
-// The limits that every arithmetic keeps, as tests for whoever writes one.
+// The unit, and the limits that every arithmetic keeps, as tests for whoever writes one.
 ghost use mathlib.Core.Path.{_≡_};
 ghost use Prim.Native.Nat.{_*_, _^_};
 ghost use lib.Dec.{leb};
 ghost use Rattle.arithmetic.specs.Intervals.{between, size, proper};
+
+// The value one, in grains.
+pub const ONE: i64 = 1 << 24;
 
 // The largest size of a value, in grains.
 pub const LARGEST: u64 = 1 << 45;

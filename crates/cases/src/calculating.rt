@@ -1,5 +1,6 @@
 // Both arithmetics, compiled: rounding, limits, and records that hold no two ends.
 use arithmetic::Arithmetic;
+use arithmetic::ONE;
 use arithmetic::Refusal;
 use arithmetic::RefusalDebug;
 use arithmetic::RefusalPartialEq;
@@ -8,8 +9,6 @@ use centre::CentreArithmetic;
 use ends::Ends;
 use ends::EndsArithmetic;
 use std::test::*;
-
-const G: i64 = 16_777_216;
 
 // The ends of what a call answered.
 fn told<R: Arithmetic>(answer: Result<R, Refusal>) -> Result<(i64, i64), Refusal> {
@@ -28,8 +27,8 @@ fn rounds_products_outward() -> Result<(), Fail> {
     check_eq(product::<Centre>(1, 1, 1, 1), Ok((-1, 1)))?;
     check_eq(product::<Ends>(-1, -1, 1, 1), Ok((-1, 0)))?;
     check_eq(product::<Centre>(-1, -1, 1, 1), Ok((-1, 1)))?;
-    check_eq(product::<Ends>(-2 * G, 3 * G, 4, 5), Ok((-10, 15)))?;
-    check_eq(product::<Centre>(-2 * G, 3 * G, 4, 5), Ok((-12, 16)))
+    check_eq(product::<Ends>(-2 * ONE, 3 * ONE, 4, 5), Ok((-10, 15)))?;
+    check_eq(product::<Centre>(-2 * ONE, 3 * ONE, 4, 5), Ok((-12, 16)))
 }
 
 #[test]

@@ -6,6 +6,7 @@ ghost use Rattle.arithmetic.specs.Rounding.{ceiled};
 ghost use Rattle.centre.specs.Centre.{meant, halved, spread, product, settled, centreOps};
 use arithmetic::Arithmetic;
 use arithmetic::LARGEST;
+use arithmetic::ONE;
 use arithmetic::Refusal;
 use arithmetic::ceil_grains;
 use arithmetic::may_make;
@@ -51,7 +52,7 @@ impl Centre {
         ensures { λ r. ⌜ r ≡ product self other ⌝ }
     {
         Centre {
-            centre: self.centre * other.centre / 0x100_0000,
+            centre: self.centre * other.centre / ONE,
             radius: radius_of(self.spread(other)),
         }
     }
