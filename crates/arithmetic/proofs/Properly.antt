@@ -1,6 +1,6 @@
 -- What the test `proper` says, and what `orZero` makes of two ends. Assumes nothing.
 use mathlib.Core.Path.{_≡_, refl, sym, ap}
-use mathlib.Core.Bool.{Bool, true, false, cond, _&&_}
+use mathlib.Core.Bool.{Bool, true, false, cond}
 use Prim.Native.Nat.{ℕ, _^_, _≤_}
 use native.Mathlib.Omega.{arith}
 use lib.Dec.{leb}
@@ -8,6 +8,7 @@ use lib.IntN.{pos, natAbs}
 use lib.Signed.{_≤ℤ_, leZ}
 use borrow.Author.Tests.{leb-true, le-leb}
 use Rattle.std.proofs.shelf.Signed.{ints}
+use Rattle.std.proofs.shelf.Tests.{and-parts, and-from}
 use Rattle.arithmetic.specs.Intervals.{Interval, between, size, proper, added, subtracted, orZero}
 
 -- `proper n i`, as facts
@@ -16,28 +17,18 @@ pub record Proper (n : ℕ) (i : Interval) : Type 0 where
   pub low-in : natAbs (i .low) ≤ n
   pub high-in : natAbs (i .high) ≤ n
 
-and-left : (a b : Bool) → (a && b) ≡ true → a ≡ true
-and-left true b e = refl
-and-left false b e = e
-
-and-right : (a b : Bool) → (a && b) ≡ true → b ≡ true
-and-right true b e = e
-and-right false b e = absurd (let z : _≡_ {A = ℕ} 0 1 = cc in omega arith)
-
 pub proper-facts : (n : ℕ) (i : Interval) → proper n i ≡ true → Proper n i
 proper-facts n i e =
-    let p : leZ (i .low) (i .high) ≡ true = and-left (leZ (i .low) (i .high)) _ e in
-    let q : size i ≤ n = leb-true (size i) n (and-right (leZ (i .low) (i .high)) _ e) in
+    let parts = and-parts (leZ (i .low) (i .high)) (leb (size i) n) e in
+    let p = parts .0 in
+    let q : size i ≤ n = leb-true (size i) n (parts .1) in
     record { ordered = omega (arith, ints); low-in = omega arith; high-in = omega arith }
 
 pub proper-from : (n : ℕ) (i : Interval) → Proper n i → proper n i ≡ true
 proper-from n i f =
     let p : true ≡ leZ (i .low) (i .high) = omega (arith, ints, f .ordered) in
     let q : size i ≤ n = omega (arith, f .low-in, f .high-in) in
-    both (leZ (i .low) (i .high)) (leb (size i) n) (sym p) (le-leb (size i) n q)
-  where
-    both : (a b : Bool) → a ≡ true → b ≡ true → (a && b) ≡ true
-    both a b p q = rw (p, q)
+    and-from (leZ (i .low) (i .high)) (leb (size i) n) (sym p) (le-leb (size i) n q)
 
 pub orZero-proper : (i : Interval) → proper (2 ^ 45) (orZero i) ≡ true
 orZero-proper i = by (proper (2 ^ 45) i) refl

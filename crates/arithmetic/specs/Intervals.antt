@@ -1,5 +1,6 @@
 -- Intervals of whole numbers of grains, and the rules for each step on them. Assumes nothing.
 --     Interval            a low end and a high end, in grains
+--     between l h         the interval from l to h
 --     size, width         the larger size of the two ends; high end minus low end, for ends in order; both in grains
 --     proper n            the ends are in order, and the size is at most n
 --     added, subtracted   the exact sum and the exact difference of two intervals

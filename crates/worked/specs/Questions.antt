@@ -62,12 +62,14 @@ abbrev pub then : {U V : Type 0} → Result U Refusal → (U → Result V Refusa
 then (Ok u) f = f u
 then (Err e) f = Err e
 
+-- what a calculation comes to, in any arithmetic
 abbrev pub value : {V : Type 0} → Ops V → Calculation → Result V Refusal
 value o (l to h) = making o l h
 value o (x plus y) = then (value o x) (λ a. then (value o y) (λ b. adding o a b))
 value o (x minus y) = then (value o x) (λ a. then (value o y) (λ b. subtracting o a b))
 value o (x times y) = then (value o x) (λ a. then (value o y) (λ b. multiplying o a b))
 
+-- an interval, a call's answer and a header's counts, as answers
 abbrev pub shown : Interval → Answer
 shown i = interval (i .low) (i .high)
 
