@@ -1,4 +1,6 @@
 // What every interval arithmetic keeps: the trait, its refusals, its limits and its rounding.
+#![tactic(auto)]
+
 ghost use Rattle.std.specs.Prelude.{◌≡◌};
 ghost use Rattle.arithmetic.specs.Intervals.{size};
 ghost use Rattle.arithmetic.specs.Operations.{Ops, making, adding, subtracting, multiplying};

@@ -1,4 +1,6 @@
 // Prints the book of each fit file that the arguments name.
+#![tactic(auto)]
+
 use std::io::Write;
 use std::{env, fs, io};
 

@@ -1,4 +1,6 @@
 // The arithmetic that keeps the centre and the radius of an interval.
+#![tactic(auto)]
+
 ghost use Rattle.std.specs.Prelude.{◌≡◌, ◌+◌, ◌*◌, ◌^◌, ◌≤◌, pos, unsigned_abs};
 ghost use Rattle.arithmetic.specs.Rounding.{ceiled};
 ghost use Rattle.centre.specs.Centre.{meant, halved, spread, product, settled, centre_ops};

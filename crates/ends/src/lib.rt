@@ -1,4 +1,6 @@
 // The arithmetic that keeps the two ends of an interval.
+#![tactic(auto)]
+
 ghost use Rattle.std.specs.Prelude.{◌≡◌, ◌*◌, ◌^◌, ◌≤◌, unsigned_abs};
 ghost use Rattle.std.specs.Int.{int_min, int_max};
 ghost use Rattle.arithmetic.specs.Intervals.{between, size};

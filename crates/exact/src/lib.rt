@@ -1,4 +1,6 @@
 // The exact theory: what an offer proves of a least squares fit. The functions carry the theorems in their contracts and do nothing.
+#![tactic(auto)]
+
 ghost use Rattle.exact.specs.Theorems.{Rank, Bound, Enclosed, LeastSquares};
 
 // A largest row sum below one shows full column rank.

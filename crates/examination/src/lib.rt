@@ -1,4 +1,6 @@
 // The examination of an offer, in any arithmetic.
+#![tactic(auto)]
+
 mod refusal;
 mod verdict;
 

@@ -1,4 +1,6 @@
 // Reads fit files: a header, the rows of a fit, its figures, and the offers made for it.
+#![tactic(auto)]
+
 ghost use Rattle.std.specs.Prelude.{◌≡◌, ◌+◌, ◌≤◌, length, IfOk};
 ghost use Rattle.fitfile.specs.Header.{header_of};
 ghost use Rattle.fitfile.specs.Whole.{Whole};

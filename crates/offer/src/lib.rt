@@ -1,4 +1,6 @@
 // A fit and an offer as they are lent: their limits, the checks that an offer meets before it is examined, and its exact numbers.
+#![tactic(auto)]
+
 mod admitted;
 mod checks;
 mod fit;

@@ -1,4 +1,6 @@
 // Reads a fit file from standard input and prints its book.
+#![tactic(auto)]
+
 use std::io;
 use std::io::{Read, Write};
 

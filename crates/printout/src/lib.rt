@@ -3,6 +3,8 @@
 // A line is ASCII text and ends with a line feed. Its numbers are decimal, without leading zeros.
 // Each function answers the length of its line, or refuses a buffer of fewer than 96 bytes and leaves it as it was.
 // The bytes after the line keep their contents. Offers and columns are numbered from 1 by the caller.
+#![tactic(auto)]
+
 ghost use Rattle.std.specs.Prelude.{◌≡◌};
 ghost use Rattle.printout.specs.Lines.{answered, written, book_line, granted_line, refused_line, column_line, none_line, file_refused_line};
 

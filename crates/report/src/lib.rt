@@ -1,4 +1,6 @@
 // Makes the whole printout of a fit file, from the file's bytes.
+#![tactic(auto)]
+
 ghost use Rattle.std.specs.Prelude.{◌≡◌, ◌+◌, ◌≤◌, true, List, ◌++◌, length, take, is_ok, vec_len, vec_capacity};
 ghost use Rattle.std.specs.List.{AllByRecursion as All};
 ghost use Rattle.report.specs.Printed.{lines_of, printed, grown, line_in};

@@ -1,4 +1,6 @@
 // What is known of the answer to an offer, whatever arithmetic examined it. The functions carry the theorems in their contracts and do nothing.
+#![tactic(auto)]
+
 ghost use Rattle.working.specs.Theorems.{Follows, GrantsSound, RefusalsEarned, GrantsNarrow};
 
 use arithmetic::Arithmetic;
