@@ -2,10 +2,10 @@ use Rattle.std.proofs.Common.{rules}
 use Rattle.centre.specs.Centre.{settled}
 use Rattle.centre.proofs.settle.Goals as goal
 
-pub returns-then-may-stand : goal.returns-then-may-stand
+pub returns-then-may_stand : goal.returns-then-may_stand
 unfolding settled
-returns-then-may-stand c = search rules
+returns-then-may_stand c = search rules
 
-pub returns-else-may-stand : goal.returns-else-may-stand
+pub returns-else-may_stand : goal.returns-else-may_stand
 unfolding settled
-returns-else-may-stand c = search rules
+returns-else-may_stand c = search rules

@@ -4,14 +4,14 @@ use Rattle.fitfile.proofs.Accepted.{accepted}
 use Rattle.fitfile.proofs.WrittenFiles.{read_back}
 use Rattle.fitfile.proofs.header.Goals as goal
 
-pub returns-in-err-words : goal.returns-in-err-words
-returns-in-err-words c = record { value = search rules; whole = search rules; read_back = read_back c.args.bytes.now }
+pub returns-in_err-words : goal.returns-in_err-words
+returns-in_err-words c = record { value = search rules; whole = search rules; read_back = read_back c.args.bytes.now }
 
 pub returns-then-words-bytes : goal.returns-then-words-bytes
 returns-then-words-bytes c = record { value = search rules; whole = tt; read_back = read_back c.args.bytes.now }
 
-pub returns-then-not-in-range : goal.returns-then-not-in-range
-returns-then-not-in-range c = record { value = search rules; whole = tt; read_back = read_back c.args.bytes.now }
+pub returns-then-not-in_range : goal.returns-then-not-in_range
+returns-then-not-in_range c = record { value = search rules; whole = tt; read_back = read_back c.args.bytes.now }
 
 pub returns-then-not-agrees : goal.returns-then-not-agrees
 returns-then-not-agrees c = record { value = search rules; whole = tt; read_back = read_back c.args.bytes.now }

@@ -37,11 +37,11 @@ lines_fit bs (Err e) r = (number_fits e, tt)
 read_once : (bs : List ℕ) (ls : List Line) → All Fits64 ls → text_of ls ≡ printed bs → ls ≡ lines_of bs
 read_once bs ls fit same = one_reading ls (lines_of bs) fit (lines_fit bs (header_of bs) refl) same
 
-pub returns-in-err-reserve : goal.returns-in-err-reserve
-returns-in-err-reserve c =
+pub returns-in_err-reserve : goal.returns-in_err-reserve
+returns-in_err-reserve c =
     record {
       text = c.reserve.ensures.items ∙ grown_failed (vec_items c.args.text.now) (printed (take 65536 c.args.input.now)) c.from-residual.result c.from-residual.ensures.0;
-      succeeds = λ room. absurd (omega (arith, c.in-err-reserve.ensures.full));
+      succeeds = λ room. absurd (omega (arith, c.in_err-reserve.ensures.full));
       one_reading = read_once (take 65536 c.args.input.now);
     }
 

@@ -13,6 +13,6 @@ returns c =
     let fa : SFits w64 a.centre = search rules in let fb : SFits w64 b.centre = search rules in
     let fz : SFits w64 z = product_fits a.centre b.centre _ _ (omega arith) (omega arith) c.requires in
     let ft : SFits w64 (truncated z) = omega (arith, ints, truncated_is z) in
-    let e : c.radius-of.result ≡ nat_abs (ceiled (pos (spread a b))) + 1
-    = c.radius-of.ensures ∙ ap (λ n. nat_abs (ceiled (pos n)) + 1) c.spread.ensures.value in
+    let e : c.radius_of.result ≡ nat_abs (ceiled (pos (spread a b))) + 1
+    = c.radius_of.ensures ∙ ap (λ n. nat_abs (ceiled (pos n)) + 1) c.spread.ensures.value in
     simp to_z-of_z (ap (kept (truncated z)) e)

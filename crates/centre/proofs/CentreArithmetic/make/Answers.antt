@@ -2,10 +2,10 @@ use Rattle.std.proofs.Common.{rules}
 use Rattle.arithmetic.specs.Operations.{making}
 use Rattle.centre.proofs.CentreArithmetic.make.Goals as goal
 
-pub returns-then-may-make : goal.returns-then-may-make
+pub returns-then-may_make : goal.returns-then-may_make
 unfolding making
-returns-then-may-make c = search rules
+returns-then-may_make c = search rules
 
-pub returns-else-may-make : goal.returns-else-may-make
+pub returns-else-may_make : goal.returns-else-may_make
 unfolding making
-returns-else-may-make c = search rules
+returns-else-may_make c = search rules

@@ -8,12 +8,12 @@ times-requires c =
     let p = c.size.ensures ∙ size-means c.args.self c.meant-a.ensures.value in
     let q = c.size-2.ensures ∙ size-means c.args.other c.meant-b.ensures.value in
     let e = ap₂ ◌*◌ p q in
-    omega (arith, leb-true _ _ (sym c.if-may-multiply.ensures))
+    omega (arith, leb-true _ _ (sym c.if-may_multiply.ensures))
 
-pub returns-then-may-multiply : goal.returns-then-may-multiply
-returns-then-may-multiply c =
+pub returns-then-may_multiply : goal.returns-then-may_multiply
+returns-then-may_multiply c =
     product_answer c.args.self c.args.other c.meant-a.ensures.value c.meant-b.ensures.value (search rules) c.times.ensures
 
-pub returns-else-may-multiply : goal.returns-else-may-multiply
+pub returns-else-may_multiply : goal.returns-else-may_multiply
 unfolding multiplying
-returns-else-may-multiply c = search rules
+returns-else-may_multiply c = search rules

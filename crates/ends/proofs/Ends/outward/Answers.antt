@@ -11,17 +11,17 @@ fits : (x y : ℤ) {m n : ℕ} → SFits w64 x → SFits w64 y → nat_abs x ≤
     → SFits w64 (to_z w64 (of_z w64 x) *ℤ to_z w64 (of_z w64 y))
 fits x y {m} {n} fx fy p q small = simp to_z-of_z (product_fits x y m n p q small)
 
-pub overflow-mul-p : goal.overflow-mul-p
-overflow-mul-p c = fits c.args.self.low c.args.other.low (search rules) (search rules) (omega arith) (omega arith) c.requires
+pub overflow_mul-p : goal.overflow_mul-p
+overflow_mul-p c = fits c.args.self.low c.args.other.low (search rules) (search rules) (omega arith) (omega arith) c.requires
 
-pub overflow-mul-q : goal.overflow-mul-q
-overflow-mul-q c = fits c.args.self.low c.args.other.high (search rules) (search rules) (omega arith) (omega arith) c.requires
+pub overflow_mul-q : goal.overflow_mul-q
+overflow_mul-q c = fits c.args.self.low c.args.other.high (search rules) (search rules) (omega arith) (omega arith) c.requires
 
-pub overflow-mul-s : goal.overflow-mul-s
-overflow-mul-s c = fits c.args.self.high c.args.other.low (search rules) (search rules) (omega arith) (omega arith) c.requires
+pub overflow_mul-s : goal.overflow_mul-s
+overflow_mul-s c = fits c.args.self.high c.args.other.low (search rules) (search rules) (omega arith) (omega arith) c.requires
 
-pub overflow-mul-t : goal.overflow-mul-t
-overflow-mul-t c = fits c.args.self.high c.args.other.high (search rules) (search rules) (omega arith) (omega arith) c.requires
+pub overflow_mul-t : goal.overflow_mul-t
+overflow_mul-t c = fits c.args.self.high c.args.other.high (search rules) (search rules) (omega arith) (omega arith) c.requires
 
 pub returns : goal.returns
 unfolding outward least greatest
@@ -36,5 +36,5 @@ returns c =
     let a : c.least.result ≡ least (between l h) (between m k) = simp to_z-of_z at c.least.ensures in
     let b : c.greatest.result ≡ greatest (between l h) (between m k) = simp to_z-of_z at c.greatest.ensures in
     let fa : SFits w64 c.least.result = search rules in let fb : SFits w64 c.greatest.result = search rules in
-    let e : c.round-out.result ≡ kept (between (floored c.least.result) (ceiled c.greatest.result)) = simp to_z-of_z at c.round-out.ensures in
+    let e : c.round_out.result ≡ kept (between (floored c.least.result) (ceiled c.greatest.result)) = simp to_z-of_z at c.round_out.ensures in
     e ∙ (λ t. kept (between (floored (a t)) (ceiled (b t))))

@@ -6,5 +6,5 @@ use Rattle.ends.proofs.EndsArithmetic.difference.Goals as goal
 pub returns : goal.returns
 returns c =
     let a = c.meant-a.ensures in let b = c.meant-b.ensures in
-    let al = a.low-bound in let ah = a.high-bound in let bl = b.low-bound in let bh = b.high-bound in
+    let al = a.low_bound in let ah = a.high_bound in let bl = b.low_bound in let bh = b.high_bound in
     difference_answer c.args.self c.args.other a.value b.value c.settle.ensures (omega (arith, ints)) (omega (arith, ints))

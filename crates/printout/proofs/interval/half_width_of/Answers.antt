@@ -32,8 +32,8 @@ half_fits l h a b p q f g = subst (SFits w64) (sym (half l h a b p q f g)) (fits
 half_kept : (l h a b : ℤ) → a ≡ to_z w64 (of_z w64 h) → b ≡ to_z w64 (of_z w64 l) → SFits w64 l → SFits w64 h → to_z w64 (of_z w64 (computed a b)) ≡ half_width l h
 half_kept l h a b p q f g = ap (λ (z : ℤ). to_z w64 (of_z w64 z)) (half l h a b p q f g) ∙ to_z-of_z w64 (half_width l h) (fits l h f g)
 
-pub overflow-cast-result : goal.overflow-cast-result
-overflow-cast-result c = search (rules, half_fits)
+pub overflow_cast-result : goal.overflow_cast-result
+overflow_cast-result c = search (rules, half_fits)
 
 pub returns : goal.returns
 returns c = search (rules, half_kept)

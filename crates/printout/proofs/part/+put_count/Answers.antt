@@ -20,21 +20,21 @@ returns-then-n-lt10 t c =
       buffer = set-pasted c.args.buffer.now c.args.at (48 + c.args.n) (omega (arith, one)) ∙ ap (pasted c.args.buffer.now c.args.at) (sym (decimal_digit c.args.n (omega arith)));
     }
 
-pub put-count-last-requires : goal.put-count-last-requires
-put-count-last-requires t c = (omega arith, omega (arith, more))
+pub put_count-last-requires : goal.put_count-last-requires
+put_count-last-requires t c = (omega arith, omega (arith, more))
 
 pub bounds-buffer-last : goal.bounds-buffer-last
 bounds-buffer-last t c = omega (arith, more)
 
-pub overflow-add-result-2 : goal.overflow-add-result-2
-overflow-add-result-2 t c = record { fits = omega (arith, more) }
+pub overflow_add-result-2 : goal.overflow_add-result-2
+overflow_add-result-2 t c = record { fits = omega (arith, more) }
 
 pub returns : goal.returns
 returns t c =
     record {
       place = omega (arith, more);
       buffer =
-          ap (λ (b : List ℕ). set b c.put-count-last.result (48 + c.args.n % 10)) c.put-count-last.ensures.buffer
-          ∙ set_more c.args.buffer.now c.args.at (decimal (c.args.n / 10)) c.put-count-last.result (48 + c.args.n % 10) (omega (arith, more)) c.put-count-last.ensures.place
+          ap (λ (b : List ℕ). set b c.put_count-last.result (48 + c.args.n % 10)) c.put_count-last.ensures.buffer
+          ∙ set_more c.args.buffer.now c.args.at (decimal (c.args.n / 10)) c.put_count-last.result (48 + c.args.n % 10) (omega (arith, more)) c.put_count-last.ensures.place
           ∙ ap (pasted c.args.buffer.now c.args.at) (sym (decimal_step c.args.n (omega arith) (omega arith)));
     }

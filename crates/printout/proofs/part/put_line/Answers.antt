@@ -6,13 +6,13 @@ use Rattle.printout.proofs.Pasting.{pasted_whole}
 use Rattle.printout.proofs.Joining.{part_room, part_more}
 use Rattle.printout.proofs.part.put_line.Goals as goal
 
-pub put-part-at-requires : goal.put-part-at-requires
-put-part-at-requires c =
+pub put_part-at-requires : goal.put_part-at-requires
+put_part-at-requires c =
     part_room c.args.parts.now c.loop-part.part-index _ c.loop-part.at _ c.loop-part-test.true c.loop-part.invariant.0 (omega arith)
 
 pub loop-part-preserved : goal.loop-part-preserved
 loop-part-preserved c =
-    part_more c.args.parts.now c.loop-part.part-index _ c.args.buffer.now _ _ c.loop-part.at _ c.loop-part-test.true c.loop-part.invariant c.put-part-at.ensures.place c.put-part-at.ensures.buffer
+    part_more c.args.parts.now c.loop-part.part-index _ c.args.buffer.now _ _ c.loop-part.at _ c.loop-part-test.true c.loop-part.invariant c.put_part-at.ensures.place c.put_part-at.ensures.buffer
 
 pub returns : goal.returns
 returns c =

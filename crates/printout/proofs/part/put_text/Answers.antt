@@ -8,7 +8,7 @@ returns c =
     record {
       place = refl;
       buffer =
-          ap (put_mid c.args.at ((c.args.at + length c.args.text.now) - c.args.at) c.args.buffer.now) c.copy-from-slice.ensures.after
+          ap (put_mid c.args.at ((c.args.at + length c.args.text.now) - c.args.at) c.args.buffer.now) c.copy_from_slice.ensures.after
           ∙ ap (λ (x : List ℕ). take c.args.at c.args.buffer.now ++ (c.args.text.now ++ x))
           (drop-drop ((c.args.at + length c.args.text.now) - c.args.at) c.args.at c.args.buffer.now
           ∙ ap (λ (k : ℕ). drop k c.args.buffer.now) (omega arith));

@@ -5,10 +5,10 @@ use Rattle.fitfile.proofs.layout.Words.read.Goals as goal
 
 pub returns : goal.returns
 returns c =
-    let count : length c.as-chunks.result.0.now ≡ length c.args.bytes.now / 4 = c.as-chunks.ensures.front-len in
+    let count : length c.as_chunks.result.0.now ≡ length c.args.bytes.now / 4 = c.as_chunks.ensures.front_len in
     let long : 32 ≤ length c.args.bytes.now = omega (arith, ltb-false) in
-    let at : (i : ℕ) → i < 8 → word (get_or c.as-chunks.result.0.now i []) 0 ≡ word c.args.bytes.now (i * 4 + 0) =
-    λ i below. ap (λ (cs : List (List ℕ)). word (get_or cs i []) 0) c.as-chunks.ensures.front ∙ word_chunk 4 (length c.args.bytes.now / 4) c.args.bytes.now i 0 [] (omega arith) (omega arith) in
+    let at : (i : ℕ) → i < 8 → word (get_or c.as_chunks.result.0.now i []) 0 ≡ word c.args.bytes.now (i * 4 + 0) =
+    λ i below. ap (λ (cs : List (List ℕ)). word (get_or cs i []) 0) c.as_chunks.ensures.front ∙ word_chunk 4 (length c.args.bytes.now / 4) c.args.bytes.now i 0 [] (omega arith) (omega arith) in
     let w0 = at 0 (omega arith) in
     let w1 = at 1 (omega arith) in
     let w2 = at 2 (omega arith) in

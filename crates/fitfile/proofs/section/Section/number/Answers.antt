@@ -18,11 +18,11 @@ pub returns-in-Some : goal.returns-in-Some
 returns-in-Some c =
     let bs : List ℕ = numbers (plain c.args.self.now) in
     let item = c.in-Some.ensures.lookup in
-    let cut : c.as-chunks.result.0.now ≡ first_chunks 8 (length bs / 8) bs = c.as-chunks.ensures.front ∙ ap (λ (xs : List ℕ). first_chunks 8 (length xs / 8) xs) c.numbers.ensures in
-    let many : length c.as-chunks.result.0.now ≡ length bs / 8 = c.as-chunks.ensures.front-len ∙ ap (λ (xs : List ℕ). length xs / 8) c.numbers.ensures in
+    let cut : c.as_chunks.result.0.now ≡ first_chunks 8 (length bs / 8) bs = c.as_chunks.ensures.front ∙ ap (λ (xs : List ℕ). first_chunks 8 (length xs / 8) xs) c.numbers.ensures in
+    let many : length c.as_chunks.result.0.now ≡ length bs / 8 = c.as_chunks.ensures.front_len ∙ ap (λ (xs : List ℕ). length xs / 8) c.numbers.ensures in
     let below : c.args.index < length bs / 8 = omega (arith, item.3.0) in
     let same : bits c.in-Some.bytes.now 0 ≡ bits bs (8 * c.args.index) =
     ap (λ (b : List ℕ). bits b 0) (item.3.1 [] ∙ ap (λ (cs : List (List ℕ)). get_or cs c.args.index []) cut) ∙ bits-chunk (length bs / 8) bs c.args.index [] below in
-    let f : SFits w64 c.from-le-bytes.result = search rules in
-    let value = spelled c.from-le-bytes.result _ (bits bs (8 * c.args.index)) f c.from-le-bytes.ensures (omega (arith, same)) in
-    found (plain c.args.self.now) c.args.index (to_z w64 (of_z w64 c.from-le-bytes.result)) below value
+    let f : SFits w64 c.from_le_bytes.result = search rules in
+    let value = spelled c.from_le_bytes.result _ (bits bs (8 * c.args.index)) f c.from_le_bytes.ensures (omega (arith, same)) in
+    found (plain c.args.self.now) c.args.index (to_z w64 (of_z w64 c.from_le_bytes.result)) below value

@@ -27,11 +27,11 @@ turn : (c : goal.After-triangle) (x : ℤ) → x ≡ dot c.loop-k.k ((fit_in c.a
 turn c x e =
     image_turn c.args.self.now c.args.i c.args.j (omega arith) c.loop-k.k (omega arith) x _ _ e refl c.triangle.ensures.value
 
-pub overflow-mul-sum : goal.overflow-mul-sum
-overflow-mul-sum c = (turn c _ c.loop-k.invariant).product
+pub overflow_mul-sum : goal.overflow_mul-sum
+overflow_mul-sum c = (turn c _ c.loop-k.invariant).product
 
-pub overflow-add-sum : goal.overflow-add-sum
-overflow-add-sum c = (turn c _ c.loop-k.invariant).total
+pub overflow_add-sum : goal.overflow_add-sum
+overflow_add-sum c = (turn c _ c.loop-k.invariant).total
 
 pub loop-k-preserved : goal.loop-k-preserved
 loop-k-preserved c = (turn c _ c.loop-k.invariant).is

@@ -4,8 +4,8 @@ use Rattle.offer.proofs.Facts.{facts, S_is}
 use Rattle.offer.proofs.Totals.{bits64, bits64_is}
 use Rattle.offer.proofs.admitted.Admitted.triangle.Goals as goal
 
-pub bounds-self-place-of : goal.bounds-self-place-of
-bounds-self-place-of c =
+pub bounds-self-place_of : goal.bounds-self-place_of
+bounds-self-place_of c =
     omega (arith, (facts c.args.self.now).s_length, place_within c.args.self.now.fit.columns c.args.k c.args.j (omega arith) (omega arith))
 
 pub returns-then-j-self : goal.returns-then-j-self
