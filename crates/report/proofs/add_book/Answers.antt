@@ -5,4 +5,4 @@ use Rattle.report.proofs.add_book.Goals as goal
 
 pub returns : goal.returns
 returns c =
-    added (book_line c.args.rows c.args.columns) (vec_items c.args.text.now) c.book-answer.ensures.answer c.book-answer.ensures.buffer c.add-line.ensures
+    added (book_line c.args.rows c.args.columns) (vec_items c.args.text.now) c.book-answer.ensures.answer c.book-answer.ensures.buffer c.add_line.ensures

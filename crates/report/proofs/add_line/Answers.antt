@@ -19,4 +19,4 @@ returns-in-Ok c =
     let buffer = c.args.buffer.now in
     let short = within c.in-Ok.length line buffer c.front.ensures in
     let room : vec_len c.args.text.now + length line ≤ vec_capacity c.args.text.now = omega arith in
-    grew (vec_items c.args.text.now) line buffer c.in-Ok.length c.extend-from-slice.result c.args.answer (c.extend-from-slice.ensures.succeeds room) c.front.ensures c.in-Ok.is c.extend-from-slice.ensures.items
+    grew (vec_items c.args.text.now) line buffer c.in-Ok.length c.extend_from_slice.result c.args.answer (c.extend_from_slice.ensures.succeeds room) c.front.ensures c.in-Ok.is c.extend_from_slice.ensures.items

@@ -40,7 +40,7 @@ read_once bs ls fit same = one_reading ls (lines_of bs) fit (lines_fit bs (heade
 pub returns-in_err-reserve : goal.returns-in_err-reserve
 returns-in_err-reserve c =
     record {
-      text = c.reserve.ensures.items ∙ grown_failed (vec_items c.args.text.now) (printed (take 65536 c.args.input.now)) c.from-residual.result c.from-residual.ensures.0;
+      text = c.reserve.ensures.items ∙ grown_failed (vec_items c.args.text.now) (printed (take 65536 c.args.input.now)) c.from_residual.result c.from_residual.ensures.0;
       succeeds = λ room. absurd (omega (arith, c.in_err-reserve.ensures.full));
       one_reading = read_once (take 65536 c.args.input.now);
     }
@@ -49,7 +49,7 @@ pub returns-in-Ok : goal.returns-in-Ok
 returns-in-Ok c =
     let h = c.in-Ok.header in
     record {
-      text = one_line (book h.rows h.columns) (Ok h) (vec_items c.args.text.now) c.front.result.now c.args.input.now refl c.in-Ok.ensures.value c.front.ensures c.reserve.ensures.items c.add-book.ensures;
+      text = one_line (book h.rows h.columns) (Ok h) (vec_items c.args.text.now) c.front.result.now c.args.input.now refl c.in-Ok.ensures.value c.front.ensures c.reserve.ensures.items c.add_book.ensures;
       succeeds = λ _. refl;
       one_reading = read_once (take 65536 c.args.input.now);
     }
@@ -58,7 +58,7 @@ pub returns-in-Err : goal.returns-in-Err
 returns-in-Err c =
     let e = c.in-Err.refusal in
     record {
-      text = one_line (file_refused (file_number e)) (Err e) (vec_items c.args.text.now) c.front.result.now c.args.input.now refl c.in-Err.ensures.value c.front.ensures c.reserve.ensures.items c.add-file-refused.ensures;
+      text = one_line (file_refused (file_number e)) (Err e) (vec_items c.args.text.now) c.front.result.now c.args.input.now refl c.in-Err.ensures.value c.front.ensures c.reserve.ensures.items c.add_file_refused.ensures;
       succeeds = λ _. refl;
       one_reading = read_once (take 65536 c.args.input.now);
     }
