@@ -8,7 +8,7 @@
 --   quotZ z (pos 2)         z / 2 rounded toward zero
 --   cond test x y           x if the test holds, otherwise y
 --   ltb a b                 the test a < b
-use Rattle.std.specs.Prelude.{ℕ, cond, ltb, List, ◌++◌, length, drop, ℤ, pos, ◌+ℤ◌, ◌-ℤ◌, Ok, Err, codes, decimal, Result, int_div, nat_lt}
+use Rattle.std.specs.Prelude.{ℕ, cond, List, ◌++◌, length, drop, ℤ, pos, ◌+ℤ◌, ◌-ℤ◌, Ok, Err, codes, decimal, Result, int_div, nat_lt}
 use Rattle.std.specs.Int.{int_div_euclid}
 use Rattle.std.specs.Fmt.{signed_decimal}
 use Rattle.printout.specs.declared.refusal.Refusal.{Refusal}
