@@ -4,7 +4,7 @@
 --     size, width         the larger size of the two ends; high end minus low end, for ends in order; both in grains
 --     proper n            the ends are in order, and the size is at most n
 --     added, subtracted   the exact sum and the exact difference of two intervals
---     or_zero              what a record that holds these two ends means: them, if they are proper for a value, else 0 to 0
+--     or_zero             what a record that holds these two ends means: them, if they are proper for a value, else 0 to 0
 --     Holds i u           u lies in i
 --     MadeFrom l h i      i may be the value that is made from l and h
 --     ProductOf i j p     p may be the product of i and j

@@ -7,7 +7,7 @@
 --     truncated z     z / g, with the fraction dropped
 --     spread a b      how far a product can lie from that of the centres, in units of 2^-48
 --     product a b     of records that hold what they mean
---     centre_ops       what the arithmetic computes
+--     centre_ops      what the arithmetic computes
 --     settled c r     the answer of a sum or a difference whose exact result lies about c
 use Rattle.std.specs.Prelude.{ℕ, ◌+◌, ◌*◌, ◌^◌, cond, ℤ, pos, ◌+ℤ◌, ◌-ℤ◌, ◌*ℤ◌, Ok, Err, Result, int_div, nat_le, unsigned_abs}
 use Rattle.std.specs.Int.Signed.{shr_z}

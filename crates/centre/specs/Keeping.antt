@@ -1,4 +1,4 @@
--- The centre arithmetic keeps the rules. Assumes nothing.
+-- The centre arithmetic keeps the rules: a proof, which stands here since an impl takes the proof of a law from specs/. Nothing in it has to be believed. Assumes nothing.
 use Rattle.std.specs.Prelude.{◌≡◌, ℕ, ◌+◌, ◌*◌, ◌/◌, ◌^◌, ◌<◌, ◌≤◌, Bool, true, false, cond, ℤ, pos, negsuc, ◌+ℤ◌, ◌-ℤ◌, ◌*ℤ◌, ◌≤ℤ◌, Ok, Err, Result, nat_le, unsigned_abs}
 use Rattle.std.proofs.Math.Path.{refl, ap, ap₂}
 use Rattle.std.proofs.Common.{sym, subst, ◌∙◌, le_refl}

@@ -3,7 +3,7 @@
 --     means e           what a record means: its two ends, or 0 to 0 where it holds no two ends of a value
 --     least, greatest   of the four products of ends, in units of 2^-48
 --     outward i j       both in grains, the least rounded down and the greatest rounded up
---     ends_ops           what the arithmetic computes
+--     ends_ops          what the arithmetic computes
 --     settled i         the answer of a sum or a difference whose exact result is i
 use Rattle.std.specs.Prelude.{◌^◌, cond, ℤ, ◌*ℤ◌, Ok, Err, Result, nat_le}
 use Rattle.std.specs.Int.{int_min, int_max}

@@ -1,4 +1,4 @@
--- The ends arithmetic keeps the rules. Assumes nothing.
+-- The ends arithmetic keeps the rules: a proof, which stands here since an impl takes the proof of a law from specs/. Nothing in it has to be believed. Assumes nothing.
 use Rattle.std.specs.Prelude.{◌≡◌, ℕ, ◌+◌, ◌*◌, ◌^◌, ◌≤◌, Bool, true, false, cond, ℤ, pos, ◌+ℤ◌, ◌-ℤ◌, ◌*ℤ◌, ◌≤ℤ◌, Ok, Err, Result, int_lt, nat_le, unsigned_abs, refl}
 use Rattle.std.proofs.Common.{sym, subst, ◌∙◌, arith, le_trans}
 use Rattle.std.proofs.Math.Path.{ap}

@@ -8,7 +8,7 @@ use Rattle.std.proofs.lemmas.Option.{slice_get-get_or, slice_get_past}
 use Rattle.std.proofs.lemmas.Int.{to_z-of_z}
 use Rattle.std.proofs.lemmas.Bool.{lt-ltb, le-leb, eq-eqb, and_from, le-ltb, cond-true, cond-false, cases_lt}
 use Rattle.std.proofs.lemmas.Bool.Decides.{nat_tests}
-use Rattle.std.specs.List.{slice_get, flat_map, AllByRecursion as All}
+use Rattle.std.specs.List.{slice_get, flat_map, AllByRecursion}
 use Rattle.std.specs.Option as options
 use Rattle.std.specs.Result as results
 use Rattle.std.specs.Simd.{first_chunks}
@@ -33,13 +33,13 @@ spelled v h =
     omega (arith, div-add-mod' v 256, div-add-mod' (v / 256) 256, div-add-mod' (v / 65536) 256)
 
 -- lists of equal length, one after the other
-length-joined : {X A : Type 0} (f : X → List A) (n : ℕ) (xs : List X) → All (λ x. length (f x) ≡ n) xs → length (flat_map f xs) ≡ length xs * n
+length-joined : {X A : Type 0} (f : X → List A) (n : ℕ) (xs : List X) → AllByRecursion (λ x. length (f x) ≡ n) xs → length (flat_map f xs) ≡ length xs * n
 length-joined f n [] each = omega arith
 length-joined f n (x ∷ xs) each =
     simp length-append (omega (arith, suc-mul (length xs) n, each.0, length-joined f n xs each.1))
 
 -- the list at i of such lists
-cut-joined : {X A : Type 0} (f : X → List A) (n : ℕ) (xs : List X) (i : ℕ) (d : X) → All (λ x. length (f x) ≡ n) xs → i < length xs → take n (drop (i * n) (flat_map f xs)) ≡ f (get_or xs i d)
+cut-joined : {X A : Type 0} (f : X → List A) (n : ℕ) (xs : List X) (i : ℕ) (d : X) → AllByRecursion (λ x. length (f x) ≡ n) xs → i < length xs → take n (drop (i * n) (flat_map f xs)) ≡ f (get_or xs i d)
 cut-joined f n [] i d each h = absurd (omega arith)
 cut-joined f n (x ∷ xs) zero d each h =
     ap (λ (k : ℕ). take n (drop k (f x ++ flat_map f xs))) {y = 0} (omega arith) ∙ take_at (f x) (flat_map f xs) n each.0
@@ -65,7 +65,7 @@ bits-number z h =
     let high = spelled (of_z w64 z / 4294967296) (omega arith) in
     omega arith
 
-numbers_long : (zs : List ℤ) → All (λ z. length (number_bytes z) ≡ 8) zs
+numbers_long : (zs : List ℤ) → AllByRecursion (λ z. length (number_bytes z) ≡ 8) zs
 numbers_long [] = tt
 numbers_long (z ∷ zs) = (refl, numbers_long zs)
 
@@ -73,7 +73,7 @@ length-numbers : (zs : List ℤ) → length (numbers_bytes zs) ≡ length zs * 8
 length-numbers zs = length-joined number_bytes 8 zs (numbers_long zs)
 
 -- the number at i of numbers that were written
-number_at_bytes : (zs : List ℤ) → All (SFits w64) zs → (i : ℕ) → i < length zs → number (numbers_bytes zs) (8 * i) ≡ get_or zs i (pos 0)
+number_at_bytes : (zs : List ℤ) → AllByRecursion (SFits w64) zs → (i : ℕ) → i < length zs → number (numbers_bytes zs) (8 * i) ≡ get_or zs i (pos 0)
 number_at_bytes zs fit i h =
     let bs : List ℕ = numbers_bytes zs in
     let z : ℤ = get_or zs i (pos 0) in
@@ -83,7 +83,7 @@ number_at_bytes zs fit i h =
     ap (to_z w64) (sym (bits-chunk (length zs) bs i [] h) ∙ ap (λ (b : List ℕ). bits b 0) chunk ∙ bits-number z fits) ∙ to_z-of_z w64 z fits
 
 -- what is read at i of a section whose numbers were written
-numbers_back : (p : Plain) (zs : List ℤ) → numbers p ≡ numbers_bytes zs → All (SFits w64) zs → (i : ℕ) → number_at p i ≡ slice_get zs i
+numbers_back : (p : Plain) (zs : List ℤ) → numbers p ≡ numbers_bytes zs → AllByRecursion (SFits w64) zs → (i : ℕ) → number_at p i ≡ slice_get zs i
 numbers_back p zs e fit i =
     let many : length (numbers p) / 8 ≡ length zs = ap (λ (b : List ℕ). length b / 8) e ∙ omega (arith, length-numbers zs) in
     nth-cond zs (pos 0) i (length (numbers p) / 8) (number (numbers p) (8 * i)) (λ o. o) many refl (λ h. ap (λ (b : List ℕ). Some (number b (8 * i))) e ∙ ap Some (number_at_bytes zs fit i h))
@@ -152,7 +152,7 @@ drop-after : (at long : ℕ) (bs part rest : List ℕ) → drop at bs ≡ part +
 drop-after at long bs part rest e l = sym (drop-drop long at bs) ∙ ap (drop long) e ∙ drop_at part rest long l
 
 -- the offer that is read at i, where the offers that were written begin at their place
-offer_at : (f : FitText) (bs : List ℕ) → header_of bs ≡ Ok (counts_in f) → drop (offers_at (counts_in f)) bs ≡ flat_map offer_bytes f.offers → All (λ o. length (offer_bytes o) ≡ offer_length (counts_in f)) f.offers → (i : ℕ) → offer_of bs i ≡ Ok (options.option_map (offer_in f i) (slice_get f.offers i))
+offer_at : (f : FitText) (bs : List ℕ) → header_of bs ≡ Ok (counts_in f) → drop (offers_at (counts_in f)) bs ≡ flat_map offer_bytes f.offers → AllByRecursion (λ o. length (offer_bytes o) ≡ offer_length (counts_in f)) f.offers → (i : ℕ) → offer_of bs i ≡ Ok (options.option_map (offer_in f i) (slice_get f.offers i))
 offer_at f bs counts from each i =
     let h : Header = counts_in f in
     let L : ℕ = offer_length h in
@@ -169,7 +169,7 @@ read_back bs f p e =
     let entries : List ℕ = numbers_bytes f.entries in
     let figures : List ℕ = numbers_bytes f.figures in
     let offers : List ℕ = flat_map offer_bytes f.offers in
-    let each : All (λ o. length (offer_bytes o) ≡ offer_length h) f.offers = All-weaker (ProperOffer h) (λ o. length (offer_bytes o) ≡ offer_length h) (length-offer h) f.offers p.offers in
+    let each : AllByRecursion (λ o. length (offer_bytes o) ≡ offer_length h) f.offers = All-weaker (ProperOffer h) (λ o. length (offer_bytes o) ≡ offer_length h) (length-offer h) f.offers p.offers in
     let long-entries : length entries ≡ 8 * (h.rows * h.columns) = omega (arith, length-numbers f.entries, p.entries) in
     let long-figures : length figures ≡ 8 * h.rows = omega (arith, length-numbers f.figures, p.figures) in
     let long-offers : length offers ≡ h.offers * offer_length h = length-joined offer_bytes (offer_length h) f.offers each in

@@ -1,13 +1,13 @@
 -- The lines of a printout as lists of bytes, and the buffer that a line is written to. Assumes nothing.
 --
 -- Glossary
---   codes "text"            the bytes of an ASCII text; "\n" is byte 10
---   decimal n               the decimal digits of n, without leading zeros; 0 is "0"
---   signed z                the same for an integer, after a minus sign if it is negative
---   divEuclid z (pos 2)     z / 2 rounded down
---   quotZ z (pos 2)         z / 2 rounded toward zero
---   cond test x y           x if the test holds, otherwise y
---   ltb a b                 the test a < b
+--   codes "text"              the bytes of an ASCII text; "\n" is byte 10
+--   decimal n                 the decimal digits of n, without leading zeros; 0 is "0"
+--   signed_decimal z          the same for an integer, after a minus sign if it is negative
+--   int_div_euclid z (pos 2)  z / 2 rounded down
+--   int_div z (pos 2)         z / 2 rounded toward zero
+--   cond test x y             x if the test holds, otherwise y
+--   nat_lt a b                the test a < b
 use Rattle.std.specs.Prelude.{ℕ, cond, List, ◌++◌, length, drop, ℤ, pos, ◌+ℤ◌, ◌-ℤ◌, Ok, Err, codes, decimal, Result, int_div, nat_lt}
 use Rattle.std.specs.Int.{int_div_euclid}
 use Rattle.std.specs.Fmt.{signed_decimal}

@@ -2,7 +2,7 @@
 use Rattle.std.proofs.Common.{◌≡◌, ℕ, suc, ◌^◌, ◌<◌, cond, eqb, List, [], ◌∷◌, ◌++◌, length, get_or, drop, ℤ, pos, negsuc, neg_ℤ, codes, decimal, sym, refl, ap, ◌∙◌, append_assoc, arith, w64, SFits}
 use Rattle.std.specs.Str.Parse.{digits_value}
 use Rattle.std.specs.Fmt.{signed_decimal}
-use Rattle.std.specs.List.{AllByRecursion as All}
+use Rattle.std.specs.List.{AllByRecursion}
 use Rattle.std.proofs.lemmas.Fmt.{decimal_is_IsNumeral}
 use Rattle.std.proofs.lemmas.Str.Parse.{digit_at}
 use Rattle.std.proofs.lemmas.Bool.{cond-false, ne_eqb}
@@ -30,7 +30,7 @@ spelt (column j l h) r = simp append_assoc
 spelt (none j) r = simp append_assoc
 spelt (file_refused k) r = simp append_assoc
 
-clear : (l : Line) → Clear (words l).0 × All Clear (words l).1
+clear : (l : Line) → Clear (words l).0 × AllByRecursion Clear (words l).1
 clear (book m n) = search clears
 clear (granted i a) = search clears
 clear (refused i k) = search clears

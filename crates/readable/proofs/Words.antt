@@ -1,13 +1,13 @@
 -- A line as words with a space between them and a line feed after the last. Assumes nothing.
 use Rattle.std.proofs.Common.{◌≡◌, ℕ, zero, suc, ◌/◌, ◌%◌, ◌<◌, ◌≤◌, false, eqb, List, [], ◌∷◌, ◌++◌, get_or, drop, ℤ, pos, negsuc, decimal, sym, refl, ap, subst, arith}
 use Rattle.std.specs.Fmt.{digit_glyph, digits_onto, digits, signed_decimal}
-use Rattle.std.specs.List.{AllByRecursion as All}
+use Rattle.std.specs.List.{AllByRecursion}
 use Rattle.std.proofs.lemmas.Bool.{cond_both}
 use Rattle.std.proofs.lemmas.Bool.Decides.{nat_tests}
 
 -- each byte of a word is above the space, so none is a space or a line feed
 abbrev pub Clear : List ℕ → Type 0
-Clear word = All (λ x. 32 < x) word
+Clear word = AllByRecursion (λ x. 32 < x) word
 
 -- a text begins with a byte that no word holds, as a space or a line feed
 abbrev pub Ends : List ℕ → Type 0
@@ -36,7 +36,7 @@ cut (x ∷ a) [] b d p q f g e = absurd (omega (arith, p.0, subst Ends (sym e) g
 cut (x ∷ a) (y ∷ c) b d p q f g e = let rest = cut a c b d p.1 q.1 f g (ap (drop 1) e) in (cc, rest.1)
 
 -- and so its other words, up to the first line feed
-pub after_same : (ws vs : List (List ℕ)) (r s : List ℕ) → All Clear ws → All Clear vs → after ws r ≡ after vs s → (ws ≡ vs) × (r ≡ s)
+pub after_same : (ws vs : List (List ℕ)) (r s : List ℕ) → AllByRecursion Clear ws → AllByRecursion Clear vs → after ws r ≡ after vs s → (ws ≡ vs) × (r ≡ s)
 after_same [] [] r s p q e = (refl, ap (drop 1) e)
 after_same [] (v ∷ vs) r s p q e = absurd (omega (arith, ap (λ (t : List ℕ). get_or t 0 0) e))
 after_same (w ∷ ws) [] r s p q e = absurd (omega (arith, ap (λ (t : List ℕ). get_or t 0 0) e))

@@ -2,7 +2,7 @@
 #![tactic(auto)]
 
 ghost use Rattle.std.specs.Prelude.{◌≡◌, ◌+◌, ◌≤◌, true, List, ◌++◌, length, take, is_ok, vec_len, vec_capacity};
-ghost use Rattle.std.specs.List.{AllByRecursion as All};
+ghost use Rattle.std.specs.List.{AllByRecursion};
 ghost use Rattle.report.specs.Printed.{lines_of, printed, grown, line_in};
 ghost use Rattle.fitfile.specs.Refusals.{file_number};
 ghost use Rattle.printout.specs.Lines.{book_line, file_refused_line};
@@ -65,7 +65,7 @@ fn add_file_refused(text: &mut Vec<u8>, refusal: FileRefusal)
 pub fn print(text: &mut Vec<u8>, input: &[u8]) -> Result<(), AllocError>
     ensures text { text.new.items ≡ grown text.old.items (printed (take 65536 input.now)) result }
     ensures succeeds { vec_len text.old + 2400 ≤ vec_capacity text.old → is_ok result ≡ true }
-    ensures one_reading { (ls : List Line) → All Fits64 ls → text_of ls ≡ printed (take 65536 input.now) → ls ≡ lines_of (take 65536 input.now) }
+    ensures one_reading { (ls : List Line) → AllByRecursion Fits64 ls → text_of ls ≡ printed (take 65536 input.now) → ls ≡ lines_of (take 65536 input.now) }
 {
     text.reserve(ROOM)?;
     match fitfile::header(front(input, MOST)) {

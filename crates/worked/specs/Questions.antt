@@ -1,8 +1,8 @@
 -- What a worked case asks, and what the definitions answer. A layer that comes adds its questions and answers here. Assumes nothing.
 --     Calculation   sums, differences and products of values that are made from two ends, in grains
 --     Question      calculated k c       the interval of c in the arithmetic of kind k
---                   ends_record l h       the interval that a record of the ends arithmetic means, with these fields
---                   centre_record c r     the same in the centre arithmetic
+--                   ends_record l h      the interval that a record of the ends arithmetic means, with these fields
+--                   centre_record c r    the same in the centre arithmetic
 --                   judged F O           the exact â, d̂ and s of the offer O for the fit F
 --                   written f            the fit file of f
 --                   counted bs           the counts in the header of the file bs

@@ -1,5 +1,5 @@
 use Rattle.std.proofs.Common.{◌≡◌, ℕ, ◌^◌, ◌<◌, true, List, [], ◌∷◌, ◌++◌, take, is_err, Ok, Err, vec_items, Result, sym, refl, ap, ◌∙◌, append-nil, arith}
-use Rattle.std.specs.List.{AllByRecursion as All}
+use Rattle.std.specs.List.{AllByRecursion}
 use Rattle.fitfile.specs.declared.Header.{Header}
 use Rattle.fitfile.specs.declared.FileRefusal.{FileRefusal}
 use Rattle.fitfile.specs.declared.FileRefusal.TheVariants.{WrongLength, CountOutOfRange, WrongLayout}
@@ -29,12 +29,12 @@ number_fits WrongLength = omega arith
 number_fits CountOutOfRange = omega arith
 number_fits WrongLayout = omega arith
 
-lines_fit : (bs : List ℕ) (r : Result Header FileRefusal) → r ≡ header_of bs → All Fits64 (lines_after r)
+lines_fit : (bs : List ℕ) (r : Result Header FileRefusal) → r ≡ header_of bs → AllByRecursion Fits64 (lines_after r)
 lines_fit bs (Ok h) e = let whole = accepted bs h (sym e) in ((omega (arith, whole.rows), omega (arith, whole.columns)), tt)
 lines_fit bs (Err e) r = (number_fits e, tt)
 
 -- so no other lines have its text
-read_once : (bs : List ℕ) (ls : List Line) → All Fits64 ls → text_of ls ≡ printed bs → ls ≡ lines_of bs
+read_once : (bs : List ℕ) (ls : List Line) → AllByRecursion Fits64 ls → text_of ls ≡ printed bs → ls ≡ lines_of bs
 read_once bs ls fit same = one_reading ls (lines_of bs) fit (lines_fit bs (header_of bs) refl) same
 
 pub returns-in_err-reserve : goal.returns-in_err-reserve
