@@ -1,13 +1,12 @@
 -- What the tests of a fit and an offer show, number by number. Assumes nothing.
-use Rattle.std.proofs.Common.{◌≡◌, ℕ, zero, suc, ◌+◌, ◌^◌, ◌<◌, ◌≤◌, Bool, true, false, cond, not, ◌&&◌, eqb, ltb, leb, ◌≢◌, List, [], ◌∷◌, length, get_or, ℤ, pos, nat_abs, is_ok, Ok, Err, Result, sym, refl, ap, ◌∙◌, arith, below_more, ltb-false, ltb-true, le-ltb, lt-ltb, eqb-true, le-leb, leb-true}
+use Rattle.std.proofs.Common.{◌≡◌, ℕ, zero, suc, ◌^◌, ◌<◌, ◌≤◌, Bool, true, false, cond, not, ◌&&◌, eqb, ltb, leb, ◌≢◌, List, [], ◌∷◌, length, get_or, ℤ, pos, nat_abs, is_ok, Err, Result, refl, ap, ◌∙◌, arith, below_more, ltb-false, ltb-true, le-ltb, lt-ltb, eqb-true, le-leb, leb-true}
 use borrow.Author.Tests.{not-false, clash, lt-leb}
 use Rattle.std.proofs.lemmas.Bool.{and_parts, and_from}
 use Rattle.offer.specs.declared.row.Row.{Row}
 use Rattle.offer.specs.declared.admitted.Admitted.{Admitted}
-use Rattle.offer.specs.declared.refusal.EntryRefusal.{EntryRefusal}
 use Rattle.offer.specs.Triangles.{triangle_length, place}
 use Rattle.offer.specs.Limits.{all_within, row_within, rows_within, fit_within, right_lengths, offer_within, whole_diagonal, admission}
-use Rattle.offer.specs.Lent.{no_row, entry_at, figure_at, fit_in, offer_in}
+use Rattle.offer.specs.Lent.{no_row, entry_at, figure_at, offer_in}
 
 pub all_within_at : (k : ℕ) (zs : List ℤ) → all_within k zs ≡ true → (p : ℕ) → nat_abs (get_or zs p (pos 0)) ≤ k
 all_within_at k [] e p = omega arith

@@ -1,9 +1,8 @@
 -- Exact sums of products in 64 bits, as loops compute them. Assumes nothing.
 --     bits64 z     what 64 bits hold of z
 --     MulAdd       one turn of a loop that adds the product of a and r to x and comes to y
-use Rattle.std.proofs.Common.{◌≡◌, ℕ, ◌+◌, ◌*◌, ◌^◌, ◌<◌, ◌≤◌, ℤ, ◌+ℤ◌, ◌*ℤ◌, nat_abs, sym, refl, ap, ◌∙◌, subst, ap₂, mul-le-mul_right, mul-le-mul, arith, w64, SFits, to_z, of_z}
+use Rattle.std.proofs.Common.{◌≡◌, ℕ, ◌+◌, ◌*◌, ◌^◌, ◌<◌, ◌≤◌, ℤ, ◌+ℤ◌, ◌*ℤ◌, nat_abs, sym, ap, ◌∙◌, subst, ap₂, mul-le-mul_right, mul-le-mul, arith, w64, SFits, to_z, of_z}
 use Rattle.std.proofs.lemmas.Int.{ints, to_z-of_z}
-use Rattle.exact.specs.Sums.{∑}
 use Rattle.exact.proofs.Ints.{nat_abs_mul}
 use Rattle.exact.proofs.Sums.{∑_more, dot, dot_within}
 

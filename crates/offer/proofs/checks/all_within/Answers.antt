@@ -1,4 +1,4 @@
-use Rattle.std.proofs.Common.{◌<◌, ◌≤◌, get_or, pos, nat_abs, sym, ◌∙◌, arith, w64, SFits, rules}
+use Rattle.std.proofs.Common.{get_or, pos, sym, ◌∙◌, arith, w64, SFits, rules}
 use Rattle.std.proofs.lemmas.Int.{to_z-of_z}
 use Rattle.std.proofs.lemmas.List.{at_drop_all}
 use Rattle.offer.specs.Limits.{all_within}

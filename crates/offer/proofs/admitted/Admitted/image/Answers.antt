@@ -1,4 +1,4 @@
-use Rattle.std.proofs.Common.{◌≡◌, ℕ, ◌+◌, ◌^◌, ◌≤◌, ◌⊎◌, ℤ, nat_abs, sym, refl, ◌∙◌, subst, inl, inr, arith}
+use Rattle.std.proofs.Common.{◌≡◌, ◌+◌, ◌^◌, ◌≤◌, ◌⊎◌, ℤ, nat_abs, sym, refl, ◌∙◌, subst, inl, inr, arith}
 use Rattle.exact.specs.Sums.{∑}
 use Rattle.exact.proofs.Sums.{dot}
 use Rattle.offer.specs.Lent.{fit_in}
