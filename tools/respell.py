@@ -49,6 +49,7 @@ OTHERS = {
     "number-at": "number_at_bytes",
     "orZero-proper": "or_zero-proper",
     "orZero-same": "or_zero_same",
+    "sameList-decides": "same_list-Decides",
 }
 
 # Fields, methods and functions of src/ that have the new name: names of another kind, which a specification may share.

@@ -5,7 +5,7 @@
 use Rattle.std.proofs.Common.{◌≡◌, ℕ, zero, suc, Bool, true, false, cond, ltb, List, [], ◌∷◌, ℤ, pos, negsuc, ◌+ℤ◌, ◌*ℤ◌, neg_ℤ, sym, refl, ap, ◌∙◌, ap₂, arith}
 use lib.IntN.{*ℤ-zero, zero-*ℤ, +ℤ_assoc, +ℤ_idr, +ℤ_idl}
 use Rattle.std.specs.Str.{bytes_eq as same_list}
-use Rattle.std.proofs.lemmas.Slice.Eq.{bytes_eq-Decides as sameList-decides}
+use Rattle.std.proofs.lemmas.Slice.Eq.{bytes_eq-Decides as same_list-Decides}
 use Rattle.std.proofs.lemmas.Int.{ints}
 use Rattle.exact.proofs.Ints.{*ℤ_assoc, *ℤ_left_comm, *ℤ_exchange, +ℤ_left_comm, *ℤ_distl, *ℤ_distr, one-*ℤ, minus_one-*ℤ, equal}
 
@@ -86,7 +86,7 @@ module _ (ρ : ℕ → ℤ) where
 
   insert_value : (c : ℤ) (k : List ℕ) (p : Poly) → poly (insert c k p) ≡ c *ℤ mono k +ℤ poly p
   insert_value c k nil = refl
-  insert_value c k (term d l p) = by (same_list k l) (sameList-decides k l).0 (insert_value c k p)
+  insert_value c k (term d l p) = by (same_list k l) (same_list-Decides k l).0 (insert_value c k p)
     where
       by : (t : Bool) → (t ≡ true → k ≡ l) → poly (insert c k p) ≡ c *ℤ mono k +ℤ poly p
           → poly (cond t (term (c +ℤ d) l p) (term d l (insert c k p))) ≡ c *ℤ mono k +ℤ (d *ℤ mono l +ℤ poly p)
