@@ -1,4 +1,4 @@
--- The examination of an offer, step by step, in any arithmetic. Assumes nothing.
+-- The examination of an offer, step by step, in any arithmetic. No code computes it yet, so no contract names it. Assumes nothing.
 --     around z       the value of an exact number z of units of 2^-48, rounded to grains once
 --     point z        the value that is z grains alone
 --     X, ρx, ρw      A S, b - A x + w and Aᵀ w, each entry rounded once

@@ -1,7 +1,7 @@
 -- The fit and the offer that lent slices hold, as the exact theory has them. Assumes nothing.
 --     entry_at rows i j, figure_at rows i    A_ij and b_i, and 0 outside the rows
---     fit_of rows n                         the fit of these rows and n columns
---     offer_of n s x w                      the offer of these lists, with S spread out: 0 below the diagonal and outside
+--     fit_of rows n                          the fit of these rows and n columns
+--     offer_of n s x w                       the offer of these lists, with S spread out: 0 below the diagonal and outside
 --     fit_in, offer_in                       the fit and the offer of an admitted offer
 use Rattle.std.specs.Prelude.{ℕ, cond, ◌&&◌, List, [], length, get_or, ℤ, pos, nat_le, nat_lt, slice_index_or}
 use Rattle.exact.specs.Fits.{Fit}

@@ -1,9 +1,9 @@
 -- The limits on a fit and on an offer, and the checks that an offer meets before it is examined. Sizes are in grains. Assumes nothing.
---     all_within k zs        no number of zs has a size above k
---     row_within, fit_within  a row and a fit keep their limits
---     work_area m n          how many values an examination needs for m rows and n columns
---     admission             what the checks of an offer answer for a fit: the first refusal, if any
---     entry                 the same, after the check of the work area
+--     all_within k zs           no number of zs has a size above k
+--     row_within, fit_within    a row and a fit keep their limits
+--     work_area m n             how many values an examination needs for m rows and n columns
+--     admission                 what the checks of an offer answer for a fit: the first refusal, if any
+--     entry                     the same, after the check of the work area
 use Rattle.std.specs.Prelude.{ℕ, zero, suc, ◌+◌, ◌*◌, ◌^◌, Bool, true, cond, not, ◌&&◌, List, [], ◌∷◌, length, ℤ, pos, Ok, Err, Result, ◌==◌, nat_le, nat_lt, slice_index_or, unsigned_abs}
 use Rattle.offer.specs.declared.row.Row.{Row}
 use Rattle.offer.specs.declared.refusal.EntryRefusal.{EntryRefusal}
@@ -14,7 +14,7 @@ abbrev pub all_within : ℕ → List ℤ → Bool
 all_within k [] = true
 all_within k (z ∷ zs) = nat_le (unsigned_abs z) k && all_within k zs
 
--- an entry of A is at most 2^24 in size, and a figure at most 2^28
+-- each of a row's eight entries, those past the last column too, is at most 2^24 in size, and its figure at most 2^28
 abbrev pub row_within : Row → Bool
 row_within r = all_within (2 ^ 24) r.entries && nat_le (unsigned_abs r.figure) (2 ^ 28)
 

@@ -1,5 +1,5 @@
 -- An upper triangle of n rows and columns in a list: row by row, each row from its diagonal on. Assumes nothing.
---     triangle_length n    how many numbers it has
+--     triangle_length n   how many numbers it has
 --     place n k j         where the number in row k and column j stands, for k ≤ j
 use Rattle.std.specs.Prelude.{ℕ, ◌+◌, ◌-◌, ◌*◌, ◌/◌}
 

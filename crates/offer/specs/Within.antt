@@ -1,4 +1,4 @@
--- The limits again, of the exact numbers of a fit and an offer. Assumes nothing.
+-- The limits again, of the exact numbers of a fit and an offer: what is to be known of every admitted offer. No contract names it yet. Assumes nothing.
 use Rattle.std.specs.Prelude.{ℕ, ◌^◌, ◌<◌, ◌≤◌, unsigned_abs}
 use Rattle.exact.specs.Fits.{Fit}
 use Rattle.exact.specs.Offers.{Offer, Triangular}
