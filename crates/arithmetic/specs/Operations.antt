@@ -4,7 +4,8 @@
 --       made l h             the value made from l and h
 --       plus, minus, times   sum, difference and product
 --     making, adding, subtracting, multiplying    the answer of a call: a value, or the refusal
-use Rattle.std.specs.Prelude.{◌*◌, ◌^◌, cond, ℤ, Ok, Err, Result, nat_le}
+--     checked t e          the answer of a check alone: the refusal e, unless the test t holds
+use Rattle.std.specs.Prelude.{◌*◌, ◌^◌, Bool, cond, ℤ, Ok, Err, Result, nat_le}
 use Rattle.arithmetic.specs.declared.refusal.Refusal.{Refusal}
 use Rattle.arithmetic.specs.declared.refusal.Refusal.TheVariants.{Making, Product, Sum}
 use Rattle.arithmetic.specs.Intervals.{Interval, between, size, proper, added, subtracted}
@@ -15,6 +16,9 @@ pub record Ops (V : Type 0) : Type 0 where
   pub plus : V → V → V
   pub minus : V → V → V
   pub times : V → V → V
+
+abbrev pub checked : Bool → Refusal → Result (Unit {0}) Refusal
+checked t e = cond t (Ok tt) (Err e)
 
 module _ {V : Type 0} (o : Ops V) where
   -- refused if l is above h, or either size is above 2^44

@@ -10,7 +10,10 @@ mod limits;
 mod refusal;
 mod rounding;
 
-pub use limits::{LARGEST, ONE, may_make, may_mean, may_multiply, may_stand, size_of};
+pub use limits::{
+    LARGEST, ONE, check_making, check_product, check_sum, may_make, may_mean, may_multiply,
+    may_stand, size_of,
+};
 pub use refusal::Refusal;
 pub use rounding::{ceil_grains, floor_grains};
 

@@ -1,6 +1,10 @@
-// The unit, and the limits that every arithmetic keeps, as tests for whoever writes one.
+// The unit, and the limits that every arithmetic keeps, as tests and as checks for whoever writes one.
 ghost use Rattle.std.specs.Prelude.{◌≡◌, ◌*◌, ◌^◌, nat_le};
 ghost use Rattle.arithmetic.specs.Intervals.{between, size, proper};
+ghost use Rattle.arithmetic.specs.Operations.{checked};
+ghost use Rattle.arithmetic.specs.declared.refusal.Refusal.TheVariants.{Making, Product, Sum};
+
+use crate::refusal::Refusal;
 
 // The value one, in grains.
 pub const ONE: i64 = 1 << 24;
@@ -15,18 +19,25 @@ pub fn size_of(low: i64, high: i64) -> u64
     low.unsigned_abs().max(high.unsigned_abs())
 }
 
+// Whether the ends are in order, and their size is at most so many grains.
+fn is_proper(most: u64, low: i64, high: i64) -> bool
+    ensures { result ≡ proper most (between low high) }
+{
+    low <= high && size_of(low, high) <= most
+}
+
 // Whether a value may mean these ends.
 pub fn may_mean(low: i64, high: i64) -> bool
     ensures { result ≡ proper (2 ^ 45) (between low high) }
 {
-    low <= high && size_of(low, high) <= LARGEST
+    is_proper(LARGEST, low, high)
 }
 
 // Whether a value may be made from these ends.
 pub fn may_make(low: i64, high: i64) -> bool
     ensures { result ≡ proper (2 ^ 44) (between low high) }
 {
-    low <= high && size_of(low, high) <= 1 << 44
+    is_proper(1 << 44, low, high)
 }
 
 // Whether a sum or a difference of this size stands.
@@ -42,4 +53,27 @@ pub fn may_multiply(size: u64, other: u64) -> bool
 {
     let product = size as u128 * other as u128;
     product <= 1 << 62
+}
+
+// A refusal, unless a value may be made from these ends.
+pub fn check_making(low: i64, high: i64) -> Result<(), Refusal>
+    ensures { result ≡ checked (proper (2 ^ 44) (between low high)) Making }
+{
+    may_make(low, high).then_some(()).ok_or(Refusal::Making)
+}
+
+// A refusal, unless a sum or a difference of this size stands.
+pub fn check_sum(size: u64) -> Result<(), Refusal>
+    ensures { result ≡ checked (nat_le size (2 ^ 45)) Sum }
+{
+    may_stand(size).then_some(()).ok_or(Refusal::Sum)
+}
+
+// A refusal, unless values of these sizes may be multiplied.
+pub fn check_product(size: u64, other: u64) -> Result<(), Refusal>
+    ensures { result ≡ checked (nat_le (size * other) (2 ^ 62)) Product }
+{
+    may_multiply(size, other)
+        .then_some(())
+        .ok_or(Refusal::Product)
 }

@@ -2,22 +2,18 @@
 ghost use Rattle.std.specs.Prelude.{◌≡◌};
 ghost use Rattle.arithmetic.specs.Refusals.{number};
 
+// Each with its number.
 #[derive(Clone, Copy, PartialEq, Eq, Debug)]
 pub enum Refusal {
-    Making,
-    Product,
-    Sum,
+    Making = 14,
+    Product = 15,
+    Sum = 16,
 }
 
-impl Refusal {
-    // The refusal's number.
-    pub fn number(self) -> u8
-        ensures { result ≡ number self }
-    {
-        match self {
-            Refusal::Making => 14,
-            Refusal::Product => 15,
-            Refusal::Sum => 16,
-        }
+impl From<Refusal> for u8 {
+    ghost from_gives = { λ e n. n ≡ number e };
+
+    fn from(refusal: Refusal) -> u8 {
+        refusal as u8
     }
 }

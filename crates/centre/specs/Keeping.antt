@@ -1,5 +1,5 @@
 -- The centre arithmetic keeps the rules: a proof, which stands here since an impl takes the proof of a law from specs/. Nothing in it has to be believed. Assumes nothing.
-use Rattle.std.specs.Prelude.{◌≡◌, ℕ, ◌+◌, ◌*◌, ◌/◌, ◌^◌, ◌<◌, ◌≤◌, Bool, true, false, cond, ℤ, pos, negsuc, ◌+ℤ◌, ◌-ℤ◌, ◌*ℤ◌, ◌≤ℤ◌, Ok, Err, Result, nat_le, unsigned_abs}
+use Rattle.std.specs.Prelude.{◌≡◌, ℕ, ◌+◌, ◌*◌, ◌/◌, ◌^◌, ◌<◌, ◌≤◌, Bool, true, false, cond, ℤ, pos, negsuc, ◌+ℤ◌, ◌-ℤ◌, ◌*ℤ◌, ◌≤ℤ◌, unsigned_abs}
 use Rattle.std.proofs.Math.Path.{refl, ap, ap₂}
 use Rattle.std.proofs.Common.{sym, subst, ◌∙◌, le_refl}
 use native.Mathlib.Omega.{arith}
@@ -9,17 +9,14 @@ use Rattle.std.proofs.lemmas.Int.{ints}
 use Rattle.exact.specs.Fits.{g}
 use Rattle.exact.proofs.Ints.{nat_abs_mul}
 use Rattle.exact.proofs.Ring.{◌⊕◌, ◌⊖◌, ◌⊗◌, ◌≈◌, ring}
-use Rattle.arithmetic.specs.Intervals.{Interval, between, size, width, proper, added, subtracted, or_zero, Holds, MadeFrom, ProductOf}
+use Rattle.arithmetic.specs.Intervals.{between, size, width, proper, added, subtracted, or_zero, Holds, MadeFrom, ProductOf}
 use Rattle.arithmetic.specs.Rounding.{ceiled}
-use Rattle.arithmetic.specs.Operations.{adding, subtracting, multiplying}
 use Rattle.arithmetic.specs.Rules.{Rules}
-use Rattle.arithmetic.specs.declared.refusal.Refusal.{Refusal}
-use Rattle.arithmetic.specs.declared.refusal.Refusal.TheVariants.{Sum, Product}
 use Rattle.arithmetic.proofs.Rounds.{rounds}
 use Rattle.arithmetic.proofs.Properly.{proper_facts, proper_from, or_zero-proper, or_zero_same, added_same, subtracted_same}
 use Rattle.arithmetic.proofs.Products.{product_within, sum_within}
 use Rattle.centre.specs.declared.Centre.{Centre}
-use Rattle.centre.specs.Centre.{kept, about, means, meant, halved, truncated, spread, product, centre_ops, settled}
+use Rattle.centre.specs.Centre.{kept, about, means, meant, halved, truncated, spread, product, centre_ops}
 
 -- ---- halves and quotients, for `omega`: an integer z is read as `up z - down z`, as in `ints`
 -- 2 (halved z) ≤ z < 2 (halved z) + 2
@@ -34,7 +31,7 @@ unfolding truncated
 truncated_is z = omega (arith, ints)
 
 -- ---- what a record means
-size-about : (v : Centre) → size (about v) ≡ unsigned_abs v.centre + v.radius
+pub size-about : (v : Centre) → size (about v) ≡ unsigned_abs v.centre + v.radius
 size-about v = by v.centre v.radius
   where
     by : (c : ℤ) (r : ℕ) → size (about (kept c r)) ≡ unsigned_abs c + r
@@ -48,7 +45,7 @@ means-about : (v : Centre) → unsigned_abs v.centre + v.radius ≤ 2 ^ 45 → m
 means-about v h = or_zero_same (about v)
     (proper_from (2 ^ 45) (about v) (record { ordered = omega (arith, ints); low_in = omega (arith, ints); high_in = omega (arith, ints) }))
 
-means-meant : (v : Centre) → means v ≡ about (meant v)
+pub means-meant : (v : Centre) → means v ≡ about (meant v)
 means-meant v = by (proper (2 ^ 45) (about v))
   where
     by : (t : Bool) → cond t (about v) (between (pos 0) (pos 0)) ≡ about (cond t v (kept (pos 0) 0))
@@ -57,10 +54,6 @@ means-meant v = by (proper (2 ^ 45) (about v))
 
 means_ordered : (v : Centre) → (means v).low ≤ℤ (means v).high
 means_ordered v = (proper_facts (2 ^ 45) (means v) (or_zero-proper (about v))).ordered
-
--- where x is known to hold what v means
-pub size-means : (v : Centre) {x : Centre} → x ≡ meant v → size (means v) ≡ unsigned_abs x.centre + x.radius
-size-means v {x} e = ap size (means-meant v ∙ ap about (sym e)) ∙ size-about x
 
 -- ---- a value that is made
 made_from : (l h : ℤ) → proper (2 ^ 44) (between l h) ≡ true → MadeFrom l h (means (centre_ops.made l h))
@@ -79,13 +72,13 @@ made_from l h e =
     }
 
 -- ---- a sum and a difference
-plus-about : (a b : Centre) → about (centre_ops.plus a b) ≡ added (means a) (means b)
+pub plus-about : (a b : Centre) → about (centre_ops.plus a b) ≡ added (means a) (means b)
 plus-about a b = rw (means-meant a, means-meant b) (exact (meant a) (meant b))
   where
     exact : (x y : Centre) → about (kept (x.centre +ℤ y.centre) (x.radius + y.radius)) ≡ added (about x) (about y)
     exact x y = ap₂ between (omega (arith, ints)) (omega (arith, ints))
 
-minus-about : (a b : Centre) → about (centre_ops.minus a b) ≡ subtracted (means a) (means b)
+pub minus-about : (a b : Centre) → about (centre_ops.minus a b) ≡ subtracted (means a) (means b)
 minus-about a b = rw (means-meant a, means-meant b) (exact (meant a) (meant b))
   where
     exact : (x y : Centre) → about (kept (x.centre -ℤ y.centre) (x.radius + y.radius)) ≡ subtracted (about x) (about y)
@@ -147,29 +140,3 @@ centre_rules = record {
   times_product = λ a b small. let same = product_about (meant a) (meant b) (rw (means-meant a, means-meant b) at small) in
       rw (means-meant a, means-meant b, same) (product_of (meant a) (meant b));
 }
-
--- ---- what the calls answer
-settled-about : (v : Centre) {i : Interval} → about v ≡ i → settled v.centre v.radius ≡ cond (nat_le (size i) (2 ^ 45)) (Ok v) (Err Sum)
-unfolding settled
-settled-about v e = ap (λ n. cond (nat_le n (2 ^ 45)) (Ok v) (Err Sum)) (sym (size-about v) ∙ ap size e)
-
--- from records that are known to hold what a and b mean
-module _ (a b : Centre) {x y : Centre} (ex : x ≡ meant a) (ey : y ≡ meant b) where
-  pub sum_answer : {c : ℤ} {r : ℕ} {z : Result Centre Refusal} → z ≡ settled c r
-      → c ≡ x.centre +ℤ y.centre → r ≡ x.radius + y.radius → z ≡ adding centre_ops a b
-  unfolding adding
-  sum_answer e p q =
-      e ∙ ap₂ settled p q ∙ ap₂ (λ x y. settled (x.centre +ℤ y.centre) (x.radius + y.radius)) ex ey
-      ∙ settled-about (centre_ops.plus a b) (plus-about a b)
-
-  pub difference_answer : {c : ℤ} {r : ℕ} {z : Result Centre Refusal} → z ≡ settled c r
-      → c ≡ x.centre -ℤ y.centre → r ≡ x.radius + y.radius → z ≡ subtracting centre_ops a b
-  unfolding subtracting
-  difference_answer e p q =
-      e ∙ ap₂ settled p q ∙ ap₂ (λ x y. settled (x.centre -ℤ y.centre) (x.radius + y.radius)) ex ey
-      ∙ settled-about (centre_ops.minus a b) (minus-about a b)
-
-  pub product_answer : {z : Centre} → nat_le (size (means a) * size (means b)) (2 ^ 62) ≡ true → z ≡ product x y
-      → Ok z ≡ multiplying centre_ops a b
-  unfolding multiplying
-  product_answer small e = ap Ok (e ∙ ap₂ product ex ey) ∙ ap (λ t. cond t (Ok (centre_ops.times a b)) (Err Product)) (sym small)

@@ -7,7 +7,7 @@ ghost use Rattle.centre.specs.Centre.{meant, halved, spread, product, settled, c
 ghost use Rattle.centre.specs.Keeping.{centre_rules};
 
 use arithmetic::{
-    Arithmetic, LARGEST, ONE, Refusal, ceil_grains, may_make, may_multiply, may_stand,
+    Arithmetic, LARGEST, ONE, Refusal, ceil_grains, check_making, check_product, check_sum,
 };
 
 // An interval by its centre and its radius, in grains. A record whose ends are no two ends of a value means 0 to 0.
@@ -75,11 +75,8 @@ fn settle(centre: i64, radius: u64) -> Result<Centre, Refusal>
     requires { radius ≤ 2 ^ 46 }
     ensures { result ≡ settled centre radius }
 {
-    if may_stand(centre.unsigned_abs() + radius) {
-        Ok(Centre { centre, radius })
-    } else {
-        Err(Refusal::Sum)
-    }
+    check_sum(centre.unsigned_abs() + radius)?;
+    Ok(Centre { centre, radius })
 }
 
 impl Arithmetic for Centre {
@@ -88,15 +85,10 @@ impl Arithmetic for Centre {
     ghost rules = { centre_rules };
 
     fn make(low: i64, high: i64) -> Result<Centre, Refusal> {
-        if may_make(low, high) {
-            let centre = half(low + high);
-            Ok(Centre {
-                centre,
-                radius: high.abs_diff(centre),
-            })
-        } else {
-            Err(Refusal::Making)
-        }
+        check_making(low, high)?;
+        let centre = half(low + high);
+        let radius = high.abs_diff(centre);
+        Ok(Centre { centre, radius })
     }
 
     fn sum(self, other: Centre) -> Result<Centre, Refusal> {
@@ -111,11 +103,8 @@ impl Arithmetic for Centre {
 
     fn product(self, other: Centre) -> Result<Centre, Refusal> {
         let (a, b) = (self.meant(), other.meant());
-        if may_multiply(self.size(), other.size()) {
-            Ok(a.times(b))
-        } else {
-            Err(Refusal::Product)
-        }
+        check_product(self.size(), other.size())?;
+        Ok(a.times(b))
     }
 
     fn low(self) -> i64 {

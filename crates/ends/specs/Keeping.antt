@@ -1,21 +1,17 @@
 -- The ends arithmetic keeps the rules: a proof, which stands here since an impl takes the proof of a law from specs/. Nothing in it has to be believed. Assumes nothing.
-use Rattle.std.specs.Prelude.{◌≡◌, ℕ, ◌+◌, ◌*◌, ◌^◌, ◌≤◌, Bool, true, false, cond, ℤ, pos, ◌+ℤ◌, ◌-ℤ◌, ◌*ℤ◌, ◌≤ℤ◌, Ok, Err, Result, int_lt, nat_le, unsigned_abs, refl}
-use Rattle.std.proofs.Common.{sym, subst, ◌∙◌, arith, le_trans}
-use Rattle.std.proofs.Math.Path.{ap}
+use Rattle.std.specs.Prelude.{◌≡◌, ℕ, ◌+◌, ◌*◌, ◌^◌, ◌≤◌, Bool, true, false, cond, ℤ, pos, ◌-ℤ◌, ◌*ℤ◌, ◌≤ℤ◌, int_lt, unsigned_abs, refl}
+use Rattle.std.proofs.Common.{sym, subst, arith, le_trans}
 use Rattle.std.specs.Int.{int_min, int_max}
 use Rattle.std.proofs.lemmas.Int.{ints, clamps}
 use Rattle.exact.specs.Fits.{g}
 use Rattle.arithmetic.specs.Intervals.{Interval, between, size, width, proper, MadeFrom, ProductOf}
 use Rattle.arithmetic.specs.Rounding.{floored, ceiled}
-use Rattle.arithmetic.specs.Operations.{adding, subtracting, multiplying}
 use Rattle.arithmetic.specs.Rules.{Rules}
-use Rattle.arithmetic.specs.declared.refusal.Refusal.{Refusal}
-use Rattle.arithmetic.specs.declared.refusal.Refusal.TheVariants.{Product}
 use Rattle.arithmetic.proofs.Rounds.{rounds}
 use Rattle.arithmetic.proofs.Properly.{Proper, proper_facts, proper_from, or_zero-proper, or_zero_same, added_same, subtracted_same}
 use Rattle.arithmetic.proofs.Products.{Corners, corners_of, corners_above, corners_below, product_size, products_apart}
 use Rattle.ends.specs.declared.Ends.{Ends}
-use Rattle.ends.specs.Ends.{kept, means, least, greatest, outward, ends_ops, settled}
+use Rattle.ends.specs.Ends.{means, least, greatest, outward, ends_ops}
 
 -- ---- the least and the greatest of the four products
 least_below : (i j : Interval) → Corners (λ z. least i j ≤ℤ z) i j
@@ -114,28 +110,3 @@ ends_rules = record {
     wider : (l h : ℤ) → proper (2 ^ 44) (between l h) ≡ true → proper (2 ^ 45) (between l h) ≡ true
     wider l h e = let f = proper_facts (2 ^ 44) (between l h) e in
         proper_from (2 ^ 45) (between l h) (record { ordered = f.ordered; low_in = omega (arith, f.low_in); high_in = omega (arith, f.high_in) })
-
--- ---- what the calls answer, from records that are known to hold what a and b mean
-module _ (a b : Ends) {x y : Ends} (ex : x ≡ kept (means a)) (ey : y ≡ kept (means b)) where
-  pub sum_answer : {l h : ℤ} {r : Result Ends Refusal} → r ≡ settled (between l h)
-      → l ≡ x.low +ℤ y.low → h ≡ x.high +ℤ y.high → r ≡ adding ends_ops a b
-  unfolding settled adding
-  sum_answer e p q = e ∙ (λ t. settled (between (p t) (q t))) ∙ (λ t. settled (between ((ex t).low +ℤ (ey t).low) ((ex t).high +ℤ (ey t).high)))
-
-  pub difference_answer : {l h : ℤ} {r : Result Ends Refusal} → r ≡ settled (between l h)
-      → l ≡ x.low -ℤ y.high → h ≡ x.high -ℤ y.low → r ≡ subtracting ends_ops a b
-  unfolding settled subtracting
-  difference_answer e p q = e ∙ (λ t. settled (between (p t) (q t))) ∙ (λ t. settled (between ((ex t).low -ℤ (ey t).high) ((ex t).high -ℤ (ey t).low)))
-
-  pub product_answer : {r : Ends} → nat_le (size (between x.low x.high) * size (between y.low y.high)) (2 ^ 62) ≡ true
-      → r ≡ kept (outward (between x.low x.high) (between y.low y.high)) → Ok r ≡ multiplying ends_ops a b
-  unfolding multiplying
-  product_answer small e =
-      (λ t. Ok (e t)) ∙ (λ t. Ok (kept (outward (means_x t) (means_y t))))
-      ∙ ap (λ t. cond t (Ok (kept (outward (means a) (means b)))) (Err Product)) (sym small ∙ λ t. nat_le (size (means_x t) * size (means_y t)) (2 ^ 62))
-    where
-      means_x : between x.low x.high ≡ means a
-      means_x = λ t. between (ex t).low (ex t).high
-
-      means_y : between y.low y.high ≡ means b
-      means_y = λ t. between (ey t).low (ey t).high

@@ -9,8 +9,8 @@ ghost use Rattle.ends.specs.Ends.{kept, means, outward, settled, ends_ops};
 ghost use Rattle.ends.specs.Keeping.{ends_rules};
 
 use arithmetic::{
-    Arithmetic, Refusal, ceil_grains, floor_grains, may_make, may_mean, may_multiply, may_stand,
-    size_of,
+    Arithmetic, Refusal, ceil_grains, check_making, check_product, check_sum, floor_grains,
+    may_mean, size_of,
 };
 
 // An interval by its two ends, in grains. A record whose fields are no two ends of a value means 0 to 0.
@@ -71,11 +71,8 @@ fn round_out(low: i64, high: i64) -> Ends
 fn settle(low: i64, high: i64) -> Result<Ends, Refusal>
     ensures { result ≡ settled (between low high) }
 {
-    if may_stand(size_of(low, high)) {
-        Ok(Ends { low, high })
-    } else {
-        Err(Refusal::Sum)
-    }
+    check_sum(size_of(low, high))?;
+    Ok(Ends { low, high })
 }
 
 impl Arithmetic for Ends {
@@ -84,11 +81,8 @@ impl Arithmetic for Ends {
     ghost rules = { ends_rules };
 
     fn make(low: i64, high: i64) -> Result<Ends, Refusal> {
-        if may_make(low, high) {
-            Ok(Ends { low, high })
-        } else {
-            Err(Refusal::Making)
-        }
+        check_making(low, high)?;
+        Ok(Ends { low, high })
     }
 
     fn sum(self, other: Ends) -> Result<Ends, Refusal> {
@@ -103,11 +97,8 @@ impl Arithmetic for Ends {
 
     fn product(self, other: Ends) -> Result<Ends, Refusal> {
         let (a, b) = (self.meant(), other.meant());
-        if may_multiply(size_of(a.low, a.high), size_of(b.low, b.high)) {
-            Ok(a.outward(b))
-        } else {
-            Err(Refusal::Product)
-        }
+        check_product(size_of(a.low, a.high), size_of(b.low, b.high))?;
+        Ok(a.outward(b))
     }
 
     fn low(self) -> i64 {

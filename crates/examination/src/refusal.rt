@@ -22,7 +22,7 @@ impl Refusal {
             Refusal::Entry(refusal) => refusal.number(),
             Refusal::RowSum => 10,
             Refusal::Radius => 11,
-            Refusal::Arithmetic(refusal) => refusal.number(),
+            Refusal::Arithmetic(refusal) => u8::from(refusal),
         }
     }
 }

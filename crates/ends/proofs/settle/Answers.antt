@@ -2,10 +2,10 @@ use Rattle.std.proofs.Common.{rules}
 use Rattle.ends.specs.Ends.{settled}
 use Rattle.ends.proofs.settle.Goals as goal
 
-pub returns-then-may_stand : goal.returns-then-may_stand
+pub returns-in_err-check_sum : goal.returns-in_err-check_sum
 unfolding settled
-returns-then-may_stand c = search rules
+returns-in_err-check_sum c = search rules
 
-pub returns-else-may_stand : goal.returns-else-may_stand
+pub returns : goal.returns
 unfolding settled
-returns-else-may_stand c = search rules
+returns c = search rules

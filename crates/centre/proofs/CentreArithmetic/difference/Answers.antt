@@ -1,6 +1,6 @@
 use Rattle.std.proofs.Common.{arith}
 use Rattle.std.proofs.lemmas.Int.{ints}
-use Rattle.centre.specs.Keeping.{difference_answer}
+use Rattle.centre.proofs.Calls.{difference_answer}
 use Rattle.centre.proofs.CentreArithmetic.difference.Goals as goal
 
 pub returns : goal.returns

@@ -1,6 +1,6 @@
 use Rattle.std.proofs.Common.{arith}
 use Rattle.std.proofs.lemmas.Int.{ints}
-use Rattle.centre.specs.Keeping.{sum_answer}
+use Rattle.centre.proofs.Calls.{sum_answer}
 use Rattle.centre.proofs.CentreArithmetic.sum.Goals as goal
 
 pub returns : goal.returns

@@ -1,6 +1,6 @@
 use Rattle.std.proofs.Common.{arith}
 use Rattle.std.proofs.lemmas.Int.{ints}
-use Rattle.ends.specs.Keeping.{difference_answer}
+use Rattle.ends.proofs.Calls.{difference_answer}
 use Rattle.ends.proofs.EndsArithmetic.difference.Goals as goal
 
 pub returns : goal.returns

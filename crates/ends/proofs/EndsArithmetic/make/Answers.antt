@@ -2,10 +2,10 @@ use Rattle.std.proofs.Common.{rules}
 use Rattle.arithmetic.specs.Operations.{making}
 use Rattle.ends.proofs.EndsArithmetic.make.Goals as goal
 
-pub returns-then-may_make : goal.returns-then-may_make
+pub returns-in_err-check_making : goal.returns-in_err-check_making
 unfolding making
-returns-then-may_make c = search rules
+returns-in_err-check_making c = search rules
 
-pub returns-else-may_make : goal.returns-else-may_make
+pub returns : goal.returns
 unfolding making
-returns-else-may_make c = search rules
+returns c = search rules

@@ -1,12 +1,15 @@
 use Rattle.std.proofs.Common.{rules}
 use Rattle.arithmetic.specs.Operations.{multiplying}
-use Rattle.ends.specs.Keeping.{product_answer}
+use Rattle.ends.proofs.Calls.{product_answer}
 use Rattle.ends.proofs.EndsArithmetic.product.Goals as goal
 
-pub returns-then-may_multiply : goal.returns-then-may_multiply
-returns-then-may_multiply c =
-    product_answer c.args.self c.args.other c.meant-a.ensures.value c.meant-b.ensures.value (search rules) c.outward.ensures
-
-pub returns-else-may_multiply : goal.returns-else-may_multiply
+pub returns-in_err-check_product : goal.returns-in_err-check_product
 unfolding multiplying
-returns-else-may_multiply c = search rules
+returns-in_err-check_product c = search rules
+
+pub outward-requires : goal.outward-requires
+outward-requires c = search rules
+
+pub returns : goal.returns
+returns c =
+    product_answer c.args.self c.args.other c.meant-a.ensures.value c.meant-b.ensures.value (search rules) c.outward.ensures

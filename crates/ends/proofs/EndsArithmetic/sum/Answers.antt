@@ -1,6 +1,6 @@
 use Rattle.std.proofs.Common.{arith}
 use Rattle.std.proofs.lemmas.Int.{ints}
-use Rattle.ends.specs.Keeping.{sum_answer}
+use Rattle.ends.proofs.Calls.{sum_answer}
 use Rattle.ends.proofs.EndsArithmetic.sum.Goals as goal
 
 pub returns : goal.returns
