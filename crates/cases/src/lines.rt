@@ -1,60 +1,72 @@
 // The printed lines, at ordinary and at extreme numbers.
-use printout::Refusal;
+use printout::{Line, Refusal};
 use std::process::Abort;
 use std::test::Fail;
 
-// The buffer begins with the line, and is as it was after it.
-fn shows(
-    rt: &impl Abort,
-    buffer: &[u8],
-    answer: Result<usize, Refusal>,
-    line: &[u8],
-) -> Result<(), Fail> {
-    let length = answer?;
+// A buffer of dots then begins with the line, and is as it was after it.
+fn shows(rt: &impl Abort, buffer: &mut [u8], line: Line, text: &[u8]) -> Result<(), Fail> {
+    let length = line.write_to(buffer)?;
     assert!(rt; length <= buffer.len());
-    assert!(rt; &buffer[0..length] == line);
-    for byte in &buffer[length..] {
-        assert_eq!(rt; *byte, b'.');
-    }
+    assert!(rt; &buffer[..length] == text);
+    assert!(rt; buffer[length..].iter().all(|byte| *byte == b'.'));
     Ok(())
 }
 
-fn shows_column(rt: &impl Abort, column: u8, low: i64, high: i64, line: &[u8]) -> Result<(), Fail> {
-    let mut buffer = [b'.'; 100];
-    let answer = printout::column(&mut buffer, column, low, high);
-    shows(rt, &buffer, answer, line)
+fn shows_column(rt: &impl Abort, column: u8, low: i64, high: i64, text: &[u8]) -> Result<(), Fail> {
+    let line = Line::Column { column, low, high };
+    shows(rt, &mut [b'.'; 100], line, text)
 }
 
 #[test]
 fn prints_a_book(rt: HostRuntime) -> Result<(), Fail> {
-    let mut buffer = [b'.'; 96];
-    let answer = printout::book(&mut buffer, 64, 8);
-    shows(&rt, &buffer, answer, b"book 64 8\n")
+    shows(
+        &rt,
+        &mut [b'.'; 96],
+        Line::Book {
+            rows: 64,
+            columns: 8,
+        },
+        b"book 64 8\n",
+    )
 }
 
 #[test]
 fn prints_offers(rt: HostRuntime) -> Result<(), Fail> {
-    let mut buffer = [b'.'; 96];
-    let answer = printout::offer_granted(&mut buffer, 16, u64::MAX);
+    let largest = Line::Granted {
+        offer: 16,
+        alpha: u64::MAX,
+    };
     shows(
         &rt,
-        &buffer,
-        answer,
+        &mut [b'.'; 96],
+        largest,
         b"offer 16 granted 18446744073709551615\n",
     )?;
-    let mut buffer = [b'.'; 96];
-    let answer = printout::offer_granted(&mut buffer, 1, 0);
-    shows(&rt, &buffer, answer, b"offer 1 granted 0\n")?;
-    let mut buffer = [b'.'; 96];
-    let answer = printout::offer_refused(&mut buffer, 2, 10);
-    shows(&rt, &buffer, answer, b"offer 2 refused 10\n")
+    shows(
+        &rt,
+        &mut [b'.'; 96],
+        Line::Granted { offer: 1, alpha: 0 },
+        b"offer 1 granted 0\n",
+    )?;
+    shows(
+        &rt,
+        &mut [b'.'; 96],
+        Line::Refused {
+            offer: 2,
+            number: 10,
+        },
+        b"offer 2 refused 10\n",
+    )
 }
 
 #[test]
 fn prints_a_refused_file(rt: HostRuntime) -> Result<(), Fail> {
-    let mut buffer = [b'.'; 96];
-    let answer = printout::file_refused(&mut buffer, 4);
-    shows(&rt, &buffer, answer, b"file refused 4\n")
+    shows(
+        &rt,
+        &mut [b'.'; 96],
+        Line::FileRefused { number: 4 },
+        b"file refused 4\n",
+    )
 }
 
 #[test]
@@ -70,9 +82,12 @@ fn prints_columns(rt: HostRuntime) -> Result<(), Fail> {
     shows_column(&rt, 2, 0, 3, b"column 2 0 3 1 1\n")?;
     shows_column(&rt, 3, 3, 0, b"column 3 3 0 1 -1\n")?;
     shows_column(&rt, 4, -3, 0, b"column 4 -3 0 -2 1\n")?;
-    let mut buffer = [b'.'; 96];
-    let answer = printout::column_none(&mut buffer, 5);
-    shows(&rt, &buffer, answer, b"column 5 none\n")
+    shows(
+        &rt,
+        &mut [b'.'; 96],
+        Line::NoInterval { column: 5 },
+        b"column 5 none\n",
+    )
 }
 
 #[test]
@@ -101,34 +116,41 @@ fn prints_the_farthest_ends(rt: HostRuntime) -> Result<(), Fail> {
 }
 
 #[test]
+fn displays_the_same_text(rt: HostRuntime) -> Result<(), Fail> {
+    let line = Line::Column {
+        column: 2,
+        low: 0,
+        high: 3,
+    };
+    let text = line.to_string(rt.alloc())?;
+    assert_eq!(rt; text.as_str(), "column 2 0 3 1 1\n");
+    Ok(())
+}
+
+#[test]
 fn refuses_a_short_buffer(rt: HostRuntime) {
+    let lines = [
+        Line::Book {
+            rows: 1,
+            columns: 1,
+        },
+        Line::Granted { offer: 1, alpha: 0 },
+        Line::Refused {
+            offer: 1,
+            number: 6,
+        },
+        Line::Column {
+            column: 1,
+            low: 0,
+            high: 0,
+        },
+        Line::NoInterval { column: 1 },
+        Line::FileRefused { number: 20 },
+    ];
     let mut buffer = [b'.'; 95];
-    assert_eq!(rt;
-        printout::book(&mut buffer, 1, 1),
-        Err(Refusal::ShortBuffer)
-    );
-    assert_eq!(rt;
-        printout::offer_granted(&mut buffer, 1, 0),
-        Err(Refusal::ShortBuffer)
-    );
-    assert_eq!(rt;
-        printout::offer_refused(&mut buffer, 1, 6),
-        Err(Refusal::ShortBuffer)
-    );
-    assert_eq!(rt;
-        printout::column(&mut buffer, 1, 0, 0),
-        Err(Refusal::ShortBuffer)
-    );
-    assert_eq!(rt;
-        printout::column_none(&mut buffer, 1),
-        Err(Refusal::ShortBuffer)
-    );
-    assert_eq!(rt;
-        printout::file_refused(&mut buffer, 20),
-        Err(Refusal::ShortBuffer)
-    );
-    for byte in &buffer {
-        assert_eq!(rt; *byte, b'.');
+    for line in lines {
+        assert_eq!(rt; line.write_to(&mut buffer), Err(Refusal::ShortBuffer));
     }
-    assert_eq!(rt; Refusal::ShortBuffer.number(), 17);
+    assert!(rt; buffer.iter().all(|byte| *byte == b'.'));
+    assert_eq!(rt; u8::from(Refusal::ShortBuffer), 17);
 }

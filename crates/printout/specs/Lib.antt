@@ -1,4 +1,4 @@
 pub mod Lines
-pub mod Parts
 pub mod Printouts
 pub mod Refusals
+pub mod Words

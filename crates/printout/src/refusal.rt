@@ -2,18 +2,16 @@
 ghost use Rattle.std.specs.Prelude.{◌≡◌};
 ghost use Rattle.printout.specs.Refusals.{number};
 
+// With its number.
 #[derive(Clone, Copy, PartialEq, Eq, Debug)]
 pub enum Refusal {
-    ShortBuffer,
+    ShortBuffer = 17,
 }
 
-impl Refusal {
-    // The number of the refusal.
-    pub fn number(self) -> u8
-        ensures { result ≡ number self }
-    {
-        match self {
-            Refusal::ShortBuffer => 17,
-        }
+impl From<Refusal> for u8 {
+    ghost from_gives = { λ e n. n ≡ number e };
+
+    fn from(refusal: Refusal) -> u8 {
+        refusal as u8
     }
 }
