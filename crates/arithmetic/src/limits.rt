@@ -1,4 +1,5 @@
 // The unit, and the limits that every arithmetic keeps, as tests and as checks for whoever writes one.
+// Ends are two plain numbers: the one record of two ends is a value of the ends arithmetic, and may be malformed.
 ghost use Rattle.std.specs.Prelude.{◌≡◌, ◌*◌, ◌^◌, nat_le};
 ghost use Rattle.arithmetic.specs.Intervals.{between, size, proper};
 ghost use Rattle.arithmetic.specs.Operations.{checked};

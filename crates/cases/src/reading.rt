@@ -70,11 +70,10 @@ fn reads_negative_numbers(rt: HostRuntime) {
 
 #[test]
 fn tells_the_kinds(rt: HostRuntime) {
-    assert_eq!(rt; fitfile::offer_kind(b"\x01\0\0\0\0\0\0\0"), Ok(Kind::Ends));
-    assert_eq!(rt;
-        fitfile::offer_kind(b"\x02\0\0\0\0\0\0\0and more"),
-        Ok(Kind::Centre)
-    );
+    let ends: &[u8] = b"\x01\0\0\0\0\0\0\0";
+    assert_eq!(rt; Kind::try_from(ends), Ok(Kind::Ends));
+    let centre: &[u8] = b"\x02\0\0\0\0\0\0\0and more";
+    assert_eq!(rt; Kind::try_from(centre), Ok(Kind::Centre));
     let refused: [&[u8]; 6] = [
         b"\0\0\0\0\0\0\0\0",
         b"\x03\0\0\0\0\0\0\0",
@@ -84,7 +83,7 @@ fn tells_the_kinds(rt: HostRuntime) {
         b"\x01\0\0\0\0\0\0",
     ];
     for bytes in refused {
-        assert_eq!(rt; fitfile::offer_kind(bytes), Err(OfferRefusal::UnknownKind));
+        assert_eq!(rt; Kind::try_from(bytes), Err(OfferRefusal::UnknownKind));
     }
 }
 
@@ -101,8 +100,8 @@ fn refuses_sections_of_a_refused_file(rt: HostRuntime) {
 
 #[test]
 fn numbers_the_refusals(rt: HostRuntime) {
-    assert_eq!(rt; FileRefusal::WrongLength.number(), 20);
-    assert_eq!(rt; FileRefusal::CountOutOfRange.number(), 21);
-    assert_eq!(rt; FileRefusal::WrongLayout.number(), 22);
-    assert_eq!(rt; OfferRefusal::UnknownKind.number(), 23);
+    assert_eq!(rt; u8::from(FileRefusal::WrongLength), 20);
+    assert_eq!(rt; u8::from(FileRefusal::CountOutOfRange), 21);
+    assert_eq!(rt; u8::from(FileRefusal::WrongLayout), 22);
+    assert_eq!(rt; u8::from(OfferRefusal::UnknownKind), 23);
 }

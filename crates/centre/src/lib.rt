@@ -71,6 +71,7 @@ fn half(z: i64) -> i64
 }
 
 // The centre and the radius of a sum or a difference, if it is small enough.
+#[tactic(auto, unfolding(crate::specs::Centre::settled))]
 fn settle(centre: i64, radius: u64) -> Result<Centre, Refusal>
     requires { radius ≤ 2 ^ 46 }
     ensures { result ≡ settled centre radius }

@@ -68,6 +68,7 @@ fn round_out(low: i64, high: i64) -> Ends
 }
 
 // The two ends of a sum or a difference, if they are small enough.
+#[tactic(auto, unfolding(crate::specs::Ends::settled))]
 fn settle(low: i64, high: i64) -> Result<Ends, Refusal>
     ensures { result ≡ settled (between low high) }
 {
@@ -80,6 +81,7 @@ impl Arithmetic for Ends {
 
     ghost rules = { ends_rules };
 
+    #[tactic(auto, unfolding(arithmetic::specs::Operations::making))]
     fn make(low: i64, high: i64) -> Result<Ends, Refusal> {
         check_making(low, high)?;
         Ok(Ends { low, high })

@@ -13,13 +13,13 @@ pub enum Refusal {
     Arithmetic(arithmetic::Refusal),
 }
 
-impl Refusal {
-    // The refusal's number.
-    pub fn number(self) -> u8
-        ensures { result ≡ number self }
-    {
-        match self {
-            Refusal::Entry(refusal) => refusal.number(),
+// The refusal's number.
+impl From<Refusal> for u8 {
+    ghost from_gives = { λ r n. n ≡ number r };
+
+    fn from(refusal: Refusal) -> u8 {
+        match refusal {
+            Refusal::Entry(refusal) => u8::from(refusal),
             Refusal::RowSum => 10,
             Refusal::Radius => 11,
             Refusal::Arithmetic(refusal) => u8::from(refusal),
@@ -27,6 +27,7 @@ impl Refusal {
     }
 }
 
+// Both `From` are written by hand, since a derived one cannot state what it gives.
 impl From<EntryRefusal> for Refusal {
     ghost from_gives = { λ e r. r ≡ Entry e };
 

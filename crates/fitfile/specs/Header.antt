@@ -1,29 +1,23 @@
 -- The header of a fit file: its words, the layout that its counts ask for, and when a file is refused. Assumes nothing.
 -- Places and lengths are in bytes; a place counts from the start of the file.
 use Rattle.std.specs.Prelude.{ℕ, ◌+◌, ◌*◌, ◌/◌, Bool, cond, ◌&&◌, List, length, Ok, Err, Result, ◌==◌, nat_le}
-use Rattle.fitfile.specs.declared.layout.Header.{Header}
-use Rattle.fitfile.specs.declared.layout.Words.{Words}
+use Rattle.fitfile.specs.declared.words.Header.{Header}
+use Rattle.fitfile.specs.declared.words.Words.{Words}
 use Rattle.fitfile.specs.declared.refusal.FileRefusal.{FileRefusal}
 use Rattle.fitfile.specs.declared.refusal.FileRefusal.TheVariants.{WrongLength, CountOutOfRange, WrongLayout}
 use Rattle.fitfile.specs.Bytes.{word}
 
--- the eight words that a file begins with
+-- the eight words that a file begins with: the counts, then the places and lengths
 abbrev pub words_of : List ℕ → Words
 words_of bs =
     record {
-      rows = word bs 0;
-      columns = word bs 4;
-      offers = word bs 8;
+      counts = record { rows = word bs 0; columns = word bs 4; offers = word bs 8 };
       rows_at = word bs 12;
       figures_at = word bs 16;
       offers_at = word bs 20;
       offer_length = word bs 24;
       file_length = word bs 28;
     }
-
--- the counts among the words
-abbrev pub counts_of : Words → Header
-counts_of w = record { rows = w.rows; columns = w.columns; offers = w.offers }
 
 -- the rows of A begin after the header
 abbrev pub rows_at : ℕ
@@ -65,5 +59,5 @@ length_agrees bs = nat_le 32 (length bs) && word bs 28 == length bs
 abbrev pub header_of : List ℕ → Result Header FileRefusal
 header_of bs =
     let w = words_of bs in
-    let h = counts_of w in
+    let h = w.counts in
     cond (length_agrees bs) (cond (in_range h) (cond (agrees h w) (Ok h) (Err WrongLayout)) (Err CountOutOfRange)) (Err WrongLength)

@@ -2,7 +2,7 @@
 use Rattle.std.specs.Prelude.{ℕ, ◌+◌, ◌*◌, ◌/◌, cond, ◌&&◌, List, length, take, drop, ℤ, Some, None, Ok, Err, Option, Result, ◌==◌, nat_le, nat_lt}
 use Rattle.std.specs.Option as options
 use Rattle.std.specs.Result as results
-use Rattle.fitfile.specs.declared.layout.Header.{Header}
+use Rattle.fitfile.specs.declared.words.Header.{Header}
 use Rattle.fitfile.specs.declared.refusal.FileRefusal.{FileRefusal}
 use Rattle.fitfile.specs.declared.refusal.OfferRefusal.{OfferRefusal}
 use Rattle.fitfile.specs.declared.refusal.OfferRefusal.TheVariants.{UnknownKind}

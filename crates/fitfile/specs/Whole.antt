@@ -1,6 +1,6 @@
 -- What is known of every file that is accepted. Assumes nothing.
 use Rattle.std.specs.Prelude.{◌≡◌, ℕ, zero, suc, ◌+◌, ◌*◌, ◌≤◌, List, [], ◌++◌, length, take}
-use Rattle.fitfile.specs.declared.layout.Header.{Header}
+use Rattle.fitfile.specs.declared.words.Header.{Header}
 use Rattle.fitfile.specs.Header.{rows_at, figures_at, offers_at, offer_length, file_length}
 use Rattle.fitfile.specs.Sections.{cut}
 

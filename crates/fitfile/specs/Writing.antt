@@ -3,9 +3,9 @@
 use Rattle.std.specs.Prelude.{◌≡◌, ℕ, ◌+◌, ◌*◌, ◌/◌, ◌%◌, ◌^◌, ◌<◌, true, List, [], ◌∷◌, ◌++◌, length, ℤ, Ok, FitsSigned}
 use Rattle.std.specs.Int.{w64}
 use Rattle.std.proofs.Common.{of_z}
-use Rattle.std.specs.List.{slice_get, flat_map, AllByRecursion}
+use Rattle.std.specs.List.{slice_get, flat_map, All}
 use Rattle.std.specs.Option as options
-use Rattle.fitfile.specs.declared.layout.Header.{Header}
+use Rattle.fitfile.specs.declared.words.Header.{Header}
 use Rattle.fitfile.specs.Header.{header_of, rows_at, figures_at, offers_at, offer_numbers, offer_length, file_length, in_range}
 use Rattle.fitfile.specs.Sections.{Plain, rows, figures, offer, rows_of, figures_of, offer_of, number_at, kind_by, kind_of}
 
@@ -54,16 +54,16 @@ file_of f = header_bytes (counts_in f) ++ (numbers_bytes f.entries ++ (numbers_b
 pub record ProperOffer (h : Header) (o : OfferText) : Type 0 where
   pub kind : o.kind < 2 ^ 32
   pub long : length o.numbers ≡ offer_numbers h
-  pub fit : AllByRecursion (FitsSigned w64) o.numbers
+  pub fit : All (FitsSigned w64) o.numbers
 
 -- what the format asks of a fit: counts within their limits, as many numbers as they say, and numbers that fit 64 bits
 pub record Proper (f : FitText) : Type 0 where
   pub counts : in_range (counts_in f) ≡ true
   pub entries : length f.entries ≡ f.rows * f.columns
   pub figures : length f.figures ≡ f.rows
-  pub entries_fit : AllByRecursion (FitsSigned w64) f.entries
-  pub figures_fit : AllByRecursion (FitsSigned w64) f.figures
-  pub offers : AllByRecursion (ProperOffer (counts_in f)) f.offers
+  pub entries_fit : All (FitsSigned w64) f.entries
+  pub figures_fit : All (FitsSigned w64) f.figures
+  pub offers : All (ProperOffer (counts_in f)) f.offers
 
 -- the rows of a fit's file, with their place
 abbrev pub rows_in : FitText → Plain
@@ -90,4 +90,4 @@ pub record ReadBack (f : FitText) (bs : List ℕ) : Type 0 where
   pub offers : (i : ℕ) → offer_of bs i ≡ Ok (options.option_map (offer_in f i) (slice_get f.offers i))
   pub entry_numbers : (i : ℕ) → number_at (rows_in f) i ≡ slice_get f.entries i
   pub figure_numbers : (i : ℕ) → number_at (figures_in f) i ≡ slice_get f.figures i
-  pub each_offer : AllByRecursion OfferBack f.offers
+  pub each_offer : All OfferBack f.offers

@@ -1,6 +1,7 @@
 // The sections of a fit file, and the numbers in them.
-ghost use Rattle.std.specs.Prelude.{◌≡◌, drop};
-ghost use Rattle.fitfile.specs.Sections.{plain, numbers, number_at, kind_of};
+ghost use Rattle.std.specs.Prelude.{◌≡◌, ◌+◌, ◌≤◌, length};
+ghost use Rattle.fitfile.specs.Bytes.{number};
+ghost use Rattle.fitfile.specs.Sections.{cut, plain, numbers, number_at, kind_of};
 
 use crate::refusal::OfferRefusal;
 
@@ -11,7 +12,7 @@ pub struct Part<'a> {
     pub bytes: &'a [u8],
 }
 
-// A section of a fit file.
+// A section of a fit file. Its part is lent by the caller, so that reading needs no memory.
 #[derive(Clone, Copy)]
 pub enum Section<'a> {
     Rows(Part<'a>),
@@ -26,47 +27,60 @@ pub enum Kind {
     Centre,
 }
 
-// What follows an offer's two words.
-fn after_words(bytes: &[u8]) -> &[u8]
-    ensures { result.now ≡ drop 8 bytes.now }
-{
-    match bytes {
-        [_, _, _, _, _, _, _, _, rest @ ..] => rest,
-        _ => &[],
+impl<'a> Part<'a> {
+    // So many bytes of a file, from a place on. Callers know that there are so many; an Option would add a case that never comes.
+    pub(crate) fn cut(bytes: &'a [u8], at: usize, count: usize) -> Self
+        requires { at + count ≤ length bytes.now }
+        ensures place { result.at ≡ at }
+        ensures bytes { result.bytes.now ≡ cut at count bytes.now }
+    {
+        Part {
+            at,
+            bytes: &bytes[at..at + count],
+        }
     }
 }
 
+// The number in two's complement that eight bytes spell, low byte first.
+fn signed(bytes: [u8; 8]) -> i64
+    ensures { result ≡ number bytes 0 }
+{
+    i64::from_le_bytes(bytes)
+}
+
 impl<'a> Section<'a> {
-    // The bytes of the section's numbers.
+    // The bytes of the section's numbers: an offer's follow its two words.
     fn numbers(&self) -> &'a [u8]
         ensures { result.now ≡ numbers (plain self.now) }
     {
         match self {
-            Section::Rows(part) => part.bytes,
-            Section::Figures(part) => part.bytes,
-            Section::Offer(part) => after_words(part.bytes),
+            Section::Rows(part) | Section::Figures(part) => part.bytes,
+            Section::Offer(part) => part.bytes.get(8..).unwrap_or(&[]),
         }
     }
 
     // The number at an index, or none past the last one.
+    #[tactic(auto, using(crate::proofs::Chunks::number_chunk))]
     pub fn number(&self, index: usize) -> Option<i64>
         ensures { result ≡ number_at (plain self.now) index }
     {
         let (numbers, _) = self.numbers().as_chunks::<8>();
-        match numbers.get(index) {
-            Some(bytes) => Some(i64::from_le_bytes(*bytes)),
-            None => None,
-        }
+        numbers.get(index).copied().map(signed)
     }
 }
 
 // The arithmetic that an offer's bytes ask for, by their first two words.
-pub fn offer_kind(offer: &[u8]) -> Result<Kind, OfferRefusal>
-    ensures { result ≡ kind_of offer.now }
-{
-    match offer {
-        [1, 0, 0, 0, 0, 0, 0, 0, ..] => Ok(Kind::Ends),
-        [2, 0, 0, 0, 0, 0, 0, 0, ..] => Ok(Kind::Centre),
-        _ => Err(OfferRefusal::UnknownKind),
+impl TryFrom<&[u8]> for Kind {
+    type Error = OfferRefusal;
+
+    ghost try_from_gives = { λ offer outcome. outcome ≡ kind_of offer.now };
+
+    fn try_from(offer: &[u8]) -> Result<Kind, OfferRefusal> {
+        // One pattern of bytes for each kind, as the format lists them.
+        match offer {
+            [1, 0, 0, 0, 0, 0, 0, 0, ..] => Ok(Kind::Ends),
+            [2, 0, 0, 0, 0, 0, 0, 0, ..] => Ok(Kind::Centre),
+            _ => Err(OfferRefusal::UnknownKind),
+        }
     }
 }

@@ -1,5 +1,4 @@
 pub mod Places
-pub mod Passing
 pub mod Facts
 pub mod Totals
 pub mod Exactly

@@ -3,8 +3,8 @@ use Rattle.std.proofs.Common.{◌≡◌, ℕ, zero, suc, ◌+◌, ◌-◌, ◌*�
 use Rattle.offer.specs.Triangles.{triangle_length, place}
 
 -- k rows of a triangle of k + d columns, and the triangle below them
-split : (k d : ℕ) → (k + d) * (k + d + 1) ≡ k * (k + d + (k + d) + 1 - k) + d * (d + 1)
-split k d = let e : k + d + (k + d) + 1 - k ≡ k + d + d + 1 = omega arith in rw e (omega arith)
+split : (k d : ℕ) → (k + d) * (k + d + 1) ≡ k * (2 * (k + d) + 1 - k) + d * (d + 1)
+split k d = let e : 2 * (k + d) + 1 - k ≡ k + d + d + 1 = omega arith in rw e (omega arith)
 
 pub place_within : (n k j : ℕ) → k ≤ j → j < n → place n k j < triangle_length n
 place_within n k j h l =

@@ -1,48 +1,51 @@
--- Exact sums of products in 64 bits, as loops compute them. Assumes nothing.
+-- The terms of the exact sums, as 64 bits compute them. Assumes nothing.
 --     bits64 z     what 64 bits hold of z
---     MulAdd       one turn of a loop that adds the product of a and r to x and comes to y
-use Rattle.std.proofs.Common.{◌≡◌, ℕ, ◌+◌, ◌*◌, ◌^◌, ◌<◌, ◌≤◌, ℤ, ◌+ℤ◌, ◌*ℤ◌, nat_abs, sym, ap, ◌∙◌, subst, ap₂, mul-le-mul_right, mul-le-mul, arith, w64, SFits, to_z, of_z}
+use Rattle.std.proofs.Common.{◌≡◌, ℕ, zero, suc, ◌+◌, ◌^◌, ◌<◌, ◌≤◌, [], ◌∷◌, map, sum, ℤ, ◌*ℤ◌, nat_abs, sym, refl, ap, ◌∙◌, subst, ap₂, mul-le-mul, zero-add, add-one, arith, w64, SFits, to_z, of_z}
+use Rattle.std.specs.List.{range_with_len}
 use Rattle.std.proofs.lemmas.Int.{ints, to_z-of_z}
+use Rattle.std.proofs.lemmas.List.FromFn.{map-range_with_len_more}
+use Rattle.std.proofs.lemmas.List.Sums.{fold-append}
+use Rattle.exact.specs.Sums.{∑ℕ}
 use Rattle.exact.proofs.Ints.{nat_abs_mul}
-use Rattle.exact.proofs.Sums.{∑_more, dot, dot_within}
 
 -- a number whose size is below 2^63 fits
-pub fits64 : (z : ℤ) → nat_abs z < 2 ^ 63 → SFits w64 z
+fits64 : (z : ℤ) → nat_abs z < 2 ^ 63 → SFits w64 z
 fits64 z h = omega (arith, ints)
 
 abbrev pub bits64 : ℤ → ℤ
 bits64 z = to_z w64 (of_z w64 z)
 
-pub bits64_is : (z : ℤ) → nat_abs z < 2 ^ 63 → bits64 z ≡ z
+bits64_is : (z : ℤ) → nat_abs z < 2 ^ 63 → bits64 z ≡ z
 bits64_is z h = to_z-of_z w64 z (fits64 z h)
 
-pub record MulAdd (x a r y : ℤ) : Type 0 where
-  pub product : SFits w64 (bits64 a *ℤ bits64 r)
-  pub total : SFits w64 (x +ℤ bits64 (bits64 a *ℤ bits64 r))
-  pub is : bits64 (x +ℤ bits64 (bits64 a *ℤ bits64 r)) ≡ y
+pub bits64_same : (y z : ℤ) → y ≡ z → nat_abs z < 2 ^ 63 → bits64 y ≡ z
+bits64_same y z e h = ap bits64 e ∙ bits64_is z h
 
--- |a k| ≤ c and |y k| ≤ d at each k below n, and n c d is below 2^63
-module _ (n c d : ℕ) (a y : ℕ → ℤ) (p : (k : ℕ) → k < n → nat_abs (a k) ≤ c) (q : (k : ℕ) → k < n → nat_abs (y k) ≤ d)
-    (hc : c < 2 ^ 63) (hd : d < 2 ^ 63) (room : n * (c * d) < 2 ^ 63) where
-  pub dot_fits : (k : ℕ) → k ≤ n → nat_abs (dot k a y) < 2 ^ 63
-  dot_fits k h =
-      omega (arith, dot_within k c d a y (λ i l. p i (omega arith)) (λ i l. q i (omega arith)), mul-le-mul_right (c * d) h)
+-- the product of a number u of A and a number v of S, x or w
+module _ (u v : ℤ) (p : nat_abs u ≤ 2 ^ 24) (q : nat_abs v ≤ 2 ^ 30) where
+  small : nat_abs (u *ℤ v) ≤ 2 ^ 54
+  small = rw (nat_abs_mul u v) (mul-le-mul p q)
 
-  term_fits : (k : ℕ) → k < n → nat_abs (a k *ℤ y k) < 2 ^ 63
-  term_fits k l =
-      let t : nat_abs (a k *ℤ y k) ≤ c * d = rw (nat_abs_mul (a k) (y k)) (mul-le-mul (p k l) (q k l)) in
-      let one : 1 ≤ n = omega arith in
-      omega (arith, mul-le-mul_right (c * d) one)
+  here : bits64 u *ℤ bits64 v ≡ u *ℤ v
+  here = ap₂ ◌*ℤ◌ (bits64_is u (omega arith)) (bits64_is v (omega arith))
 
-  pub mul_add : (k : ℕ) → k < n → (x u v : ℤ) → x ≡ dot k a y → u ≡ a k → v ≡ y k → MulAdd x u v (dot (k + 1) a y)
-  mul_add k l x u v ex eu ev =
-      let here : bits64 u *ℤ bits64 v ≡ a k *ℤ y k
-      = ap₂ ◌*ℤ◌ (ap bits64 eu ∙ bits64_is (a k) (omega (arith, p k l))) (ap bits64 ev ∙ bits64_is (y k) (omega (arith, q k l))) in
-      let all : x +ℤ bits64 (bits64 u *ℤ bits64 v) ≡ dot (k + 1) a y
-      = ap₂ ◌+ℤ◌ ex (ap bits64 here ∙ bits64_is (a k *ℤ y k) (term_fits k l)) ∙ sym (∑_more k (λ i. a i *ℤ y i)) in
-      let fits = dot_fits (k + 1) (omega arith) in
-      record {
-        product = subst (SFits w64) (sym here) (fits64 (a k *ℤ y k) (term_fits k l));
-        total = subst (SFits w64) (sym all) (fits64 (dot (k + 1) a y) fits);
-        is = ap bits64 all ∙ bits64_is (dot (k + 1) a y) fits;
-      }
+  pub term_fits : SFits w64 (bits64 u *ℤ bits64 v)
+  term_fits = subst (SFits w64) (sym here) (fits64 (u *ℤ v) (omega (arith, small)))
+
+  pub term_is : (z : ℤ) → z ≡ bits64 (bits64 u *ℤ bits64 v) → z ≡ u *ℤ v
+  term_is z e = e ∙ ap bits64 here ∙ bits64_is (u *ℤ v) (omega (arith, small))
+
+  pub term_small : (z : ℤ) → z ≡ bits64 (bits64 u *ℤ bits64 v) → nat_abs z ≤ 2 ^ 54
+  term_small z e = rw (term_is z e) small
+
+-- the size of a number v of S
+pub size_is : (t v : ℤ) (r : ℕ) → nat_abs v ≤ 2 ^ 30 → t ≡ v → r ≡ nat_abs (bits64 t) → r ≡ nat_abs v
+size_is t v r h e f = f ∙ ap nat_abs (bits64_same t v e (omega arith))
+
+-- a sum over a range
+pub sum_is : (n : ℕ) (f : ℕ → ℕ) → sum (map f (range_with_len 0 n)) ≡ ∑ℕ n f
+unfolding ∑ℕ
+sum_is zero f = refl
+sum_is (suc n) f =
+    ap sum (rw add-one at (map-range_with_len_more f 0 n n (zero-add n)))
+    ∙ fold-append ◌+◌ 0 (map f (range_with_len 0 n)) (f n ∷ []) ∙ ap (λ s. s + f n) (sum_is n f)

@@ -1,6 +1,6 @@
 // An offer that has passed its entry checks, with its fit.
 ghost use Rattle.std.specs.Prelude.{◌≡◌, true, is_ok};
-ghost use Rattle.offer.specs.Limits.{admission};
+ghost use Rattle.offer.specs.Entry.{admission};
 
 use crate::fit::Fit;
 use crate::offer::Offer;
@@ -9,5 +9,5 @@ use crate::offer::Offer;
 pub struct Admitted<'a> {
     pub fit: Fit<'a>,
     pub offer: Offer<'a>,
-    ghost passed: { is_ok (admission fit.rows.now fit.columns offer.s.now offer.x.now offer.w.now) ≡ true },
+    ghost passed: { is_ok (admission fit offer) ≡ true },
 }

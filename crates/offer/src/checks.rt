@@ -1,51 +1,20 @@
 // The checks that an offer meets before it is examined.
-ghost use Rattle.std.specs.Prelude.{◌≡◌, ◌*◌, ◌^◌, ◌≤◌, length};
-ghost use Rattle.offer.specs.Triangles.{triangle_length, place};
-ghost use Rattle.offer.specs.Limits.{all_within, work_area, right_lengths, offer_within, whole_diagonal, entry};
+ghost use Rattle.std.specs.Prelude.{◌≡◌, ◌+◌, ◌*◌, length, IfOk};
+ghost use Rattle.std.specs.Result.{result_map_both};
+ghost use Rattle.offer.specs.Limits.{all_within, work_area};
+ghost use Rattle.offer.specs.Entry.{right_lengths, offer_within, entry};
 
+use crate::admitted::Admitted;
 use crate::fit::Fit;
 use crate::offer::Offer;
 use crate::refusal::EntryRefusal;
-
-// How many numbers an upper triangle of n rows and columns has.
-fn triangle_length(n: usize) -> usize
-    requires { n ≤ 8 }
-    ensures { result ≡ triangle_length n }
-{
-    n * (n + 1) / 2
-}
-
-// Where the number in row k and column j stands in a triangle of n rows and columns.
-pub(crate) fn place_of(n: usize, k: usize, j: usize) -> usize
-    requires { (k ≤ j) × ((j ≤ n) × (n ≤ 8)) }
-    ensures { result ≡ place n k j }
-{
-    k * (n + n + 1 - k) / 2 + (j - k)
-}
+use crate::triangle::Triangle;
 
 // Whether no number has a size above the limit.
 fn all_within(limit: u64, numbers: &[i64]) -> bool
     ensures { result ≡ all_within limit numbers.now }
 {
-    for z in numbers {
-        if z.unsigned_abs() > limit {
-            return false;
-        }
-    }
-    true
-}
-
-// Whether no number on the diagonal of S is 0.
-fn whole_diagonal(n: usize, s: &[i64]) -> bool
-    requires { (n ≤ 8) × (length s.now ≡ triangle_length n) }
-    ensures { result ≡ whole_diagonal n s.now n }
-{
-    for k in 0..n {
-        if s[place_of(n, k, k)] == 0 {
-            return false;
-        }
-    }
-    true
+    numbers.iter().all(|z| z.unsigned_abs() <= limit)
 }
 
 impl Fit<'_> {
@@ -58,26 +27,18 @@ impl Fit<'_> {
     }
 }
 
-impl Offer<'_> {
-    // Whether S, x and w have as many numbers as the fit asks for.
-    fn has_lengths(&self, fit: &Fit) -> bool
-        ensures { result ≡ right_lengths (length fit.now.rows.now) fit.now.columns self.now.s.now self.now.x.now self.now.w.now }
-    {
-        self.s.len() == triangle_length(fit.columns)
-            && self.x.len() == fit.columns
-            && self.w.len() == fit.rows.len()
-    }
-
+impl<'a> Offer<'a> {
     // Whether the numbers of S, x and w are within their limits.
     fn is_within(&self) -> bool
-        ensures { result ≡ offer_within self.now.s.now self.now.x.now self.now.w.now }
+        ensures { result ≡ offer_within self.now }
     {
         all_within(1 << 30, self.s) && all_within(1 << 28, self.x) && all_within(1 << 25, self.w)
     }
 
     // The entry checks for a fit and a work area of so many values: the first that fails is the answer.
-    pub fn check(&self, fit: &Fit, room: usize) -> Result<(), EntryRefusal>
-        ensures { result ≡ entry fit.now.rows.now fit.now.columns self.now.s.now self.now.x.now self.now.w.now room }
+    pub fn admit(self, fit: Fit<'a>, room: usize) -> Result<Admitted<'a>, EntryRefusal>
+        ensures answer { result_map_both (λ a. tt) (λ e. e) result ≡ entry fit.entry self.entry room }
+        ensures same { IfOk result (λ a. (a.fit ≡ fit.entry) × (a.offer ≡ self.entry)) }
     {
         if room < fit.work_area() {
             return Err(EntryRefusal::ShortWorkArea);
@@ -85,15 +46,16 @@ impl Offer<'_> {
         if fit.rows.len() < fit.columns {
             return Err(EntryRefusal::FewRows);
         }
-        if !self.has_lengths(fit) {
+        let s = Triangle::new(fit.columns, self.s).ok_or(EntryRefusal::WrongLength)?;
+        if self.x.len() != fit.columns || self.w.len() != fit.rows.len() {
             return Err(EntryRefusal::WrongLength);
         }
         if !self.is_within() {
             return Err(EntryRefusal::BeyondLimit);
         }
-        if !whole_diagonal(fit.columns, self.s) {
+        if !s.has_whole_diagonal() {
             return Err(EntryRefusal::ZeroOnDiagonal);
         }
-        Ok(())
+        Ok(Admitted { fit, offer: self })
     }
 }

@@ -3,13 +3,16 @@
 
 mod admitted;
 mod checks;
+mod exact_number;
 mod fit;
 mod numbers;
 mod offer;
 mod refusal;
 mod row;
+mod triangle;
 
 pub use admitted::Admitted;
+pub use exact_number::ExactNumber;
 pub use fit::Fit;
 pub use offer::Offer;
 pub use refusal::EntryRefusal;

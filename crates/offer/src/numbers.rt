@@ -1,20 +1,27 @@
 // The exact numbers of an admitted offer. Indices count from 0; outside the fit and the offer every number is 0.
-ghost use Rattle.std.specs.Prelude.{◌≡◌, ◌^◌, ◌<◌, ◌≤◌, pos, ◌+ℤ◌, ◌-ℤ◌, ◌*ℤ◌, if◌then◌else◌, nat_lt, unsigned_abs};
-ghost use Rattle.exact.specs.Fits.{g, image};
+ghost use Rattle.std.specs.Prelude.{◌≡◌, ℕ, ◌^◌, ◌<◌, ◌≤◌, ℤ, pos, if◌then◌else◌, nat_lt, unsigned_abs};
+ghost use Rattle.exact.specs.Sums.{∑};
+ghost use Rattle.exact.specs.Fits.{image};
 ghost use Rattle.exact.specs.Offers.{X̂, ρ̂x, ρ̂w, s};
 ghost use Rattle.offer.specs.Lent.{fit_in, offer_in};
 
 use crate::admitted::Admitted;
-use crate::checks::place_of;
+use crate::exact_number::ExactNumber;
+use crate::triangle::Triangle;
 use arithmetic::ONE;
 
-// b - y + w in units of 2^-48, from b and w in grains and y in units of 2^-48.
-fn residual_of(b: i64, y: i64, w: i64) -> i64
-    requires { (unsigned_abs b ≤ 2 ^ 28) × ((unsigned_abs y ≤ 2 ^ 55) × (unsigned_abs w ≤ 2 ^ 25)) }
-    ensures value { result ≡ pos g *ℤ b -ℤ y +ℤ pos g *ℤ w }
-    ensures size { unsigned_abs result ≤ 2 ^ 57 }
+// The sum of the first n terms. A loop, since `(0..n).map(term).sum()` leaves the bounds of a signed sum unproved.
+fn total<F: Fn(usize) -> i64>(n: usize, term: F) -> i64
+    requires few { n ≤ 64 }
+    requires calls { (k : ℕ) → k < n → F.pre term k }
+    requires small { (k : ℕ) (z : ℤ) → k < n → F.post term k z → unsigned_abs z ≤ 2 ^ 54 }
+    ensures { (f : ℕ → ℤ) → ((k : ℕ) (z : ℤ) → k < n → F.post term k z → z ≡ f k) → result ≡ ∑ n f }
 {
-    ONE * b - y + ONE * w
+    let mut sum = 0;
+    for k in 0..n {
+        sum += term(k);
+    }
+    sum
 }
 
 impl Admitted<'_> {
@@ -23,26 +30,24 @@ impl Admitted<'_> {
         ensures value { result ≡ (offer_in self.now).S k j }
         ensures size { unsigned_abs result ≤ 2 ^ 30 }
     {
-        if k <= j && j < self.fit.columns {
-            self.offer.s[place_of(self.fit.columns, k, j)]
-        } else {
-            0
-        }
+        let s = Triangle {
+            columns: self.fit.columns,
+            numbers: self.offer.s,
+        };
+        s.at(k, j)
     }
 
-    // A S in row i and column j, in units of 2^-48.
-    pub fn image(&self, i: usize, j: usize) -> i64
-        ensures value { result ≡ X̂ (fit_in self.now) (offer_in self.now) i j }
-        ensures size { unsigned_abs result ≤ 2 ^ 57 }
+    // A S in row i and column j.
+    pub fn image(&self, i: usize, j: usize) -> ExactNumber
+        ensures { result.units ≡ X̂ (fit_in self.now) (offer_in self.now) i j }
     {
-        if i >= self.fit.rows.len() || j >= self.fit.columns {
-            return 0;
-        }
-        let mut sum = 0;
-        for k in 0..j + 1 {
-            sum += self.fit.rows[i].entries[k] * self.triangle(k, j);
-        }
-        sum
+        let units = match self.fit.rows.get(i) {
+            Some(row) if j < self.fit.columns => {
+                total(j + 1, |k| row.entries[k] * self.triangle(k, j))
+            }
+            _ => 0,
+        };
+        ExactNumber { units }
     }
 
     // A x in row i, in units of 2^-48.
@@ -51,38 +56,34 @@ impl Admitted<'_> {
         ensures value { result ≡ image (fit_in self.now) (offer_in self.now).x i }
         ensures size { unsigned_abs result ≤ 2 ^ 55 }
     {
-        let mut sum = 0;
-        for j in 0..self.fit.columns {
-            sum += self.fit.rows[i].entries[j] * self.offer.x[j];
-        }
-        sum
+        let row = &self.fit.rows[i];
+        total(self.fit.columns, |j| row.entries[j] * self.offer.x[j])
     }
 
-    // b - A x + w in row i, in units of 2^-48.
-    pub fn residual(&self, i: usize) -> i64
-        ensures value { result ≡ ρ̂x (fit_in self.now) (offer_in self.now) i }
-        ensures size { unsigned_abs result ≤ 2 ^ 57 }
+    // b - A x + w in row i.
+    pub fn residual(&self, i: usize) -> ExactNumber
+        ensures { result.units ≡ ρ̂x (fit_in self.now) (offer_in self.now) i }
     {
-        if i < self.fit.rows.len() {
-            residual_of(self.fit.rows[i].figure, self.product(i), self.offer.w[i])
+        let units = match self.fit.rows.get(i) {
+            Some(row) => ONE * row.figure - self.product(i) + ONE * self.offer.w[i],
+            None => 0,
+        };
+        ExactNumber { units }
+    }
+
+    // The transpose of A, times w, in row k.
+    pub fn normal_residual(&self, k: usize) -> ExactNumber
+        ensures { result.units ≡ (if nat_lt k self.now.fit.columns then ρ̂w (fit_in self.now) (offer_in self.now) k else pos 0) }
+    {
+        let units = if k < self.fit.columns {
+            total(
+                self.fit.rows.len(),
+                |i| self.fit.rows[i].entries[k] * self.offer.w[i],
+            )
         } else {
             0
-        }
-    }
-
-    // The transpose of A, times w, in row k, in units of 2^-48.
-    pub fn normal_residual(&self, k: usize) -> i64
-        ensures value { result ≡ (if nat_lt k self.now.fit.columns then ρ̂w (fit_in self.now) (offer_in self.now) k else pos 0) }
-        ensures size { unsigned_abs result ≤ 2 ^ 57 }
-    {
-        if k >= self.fit.columns {
-            return 0;
-        }
-        let mut sum = 0;
-        for i in 0..self.fit.rows.len() {
-            sum += self.fit.rows[i].entries[k] * self.offer.w[i];
-        }
-        sum
+        };
+        ExactNumber { units }
     }
 
     // The sum of the sizes in row j of S, in grains.
@@ -90,10 +91,8 @@ impl Admitted<'_> {
         ensures value { result ≡ s (fit_in self.now) (offer_in self.now) j }
         ensures size { result ≤ 2 ^ 33 }
     {
-        let mut sum = 0;
-        for k in 0..self.fit.columns {
-            sum += self.triangle(j, k).unsigned_abs();
-        }
-        sum
+        (0..self.fit.columns)
+            .map(|k| self.triangle(j, k).unsigned_abs())
+            .sum()
     }
 }

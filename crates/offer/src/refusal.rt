@@ -2,26 +2,21 @@
 ghost use Rattle.std.specs.Prelude.{◌≡◌};
 ghost use Rattle.offer.specs.Refusals.{entry_number};
 
+// The variants have the refusals' numbers.
 #[derive(Clone, Copy, PartialEq, Eq, Debug)]
 pub enum EntryRefusal {
-    ShortWorkArea,
-    FewRows,
-    WrongLength,
-    BeyondLimit,
-    ZeroOnDiagonal,
+    ShortWorkArea = 12,
+    FewRows = 6,
+    WrongLength = 7,
+    BeyondLimit = 8,
+    ZeroOnDiagonal = 9,
 }
 
-impl EntryRefusal {
-    // The refusal's number.
-    pub fn number(self) -> u8
-        ensures { result ≡ entry_number self }
-    {
-        match self {
-            EntryRefusal::ShortWorkArea => 12,
-            EntryRefusal::FewRows => 6,
-            EntryRefusal::WrongLength => 7,
-            EntryRefusal::BeyondLimit => 8,
-            EntryRefusal::ZeroOnDiagonal => 9,
-        }
+// The refusal's number.
+impl From<EntryRefusal> for u8 {
+    ghost from_gives = { λ e n. n ≡ entry_number e };
+
+    fn from(refusal: EntryRefusal) -> u8 {
+        refusal as u8
     }
 }

@@ -10,3 +10,4 @@ mod words;
 
 pub use line::Line;
 pub use refusal::Refusal;
+pub use words::LINE_ROOM;

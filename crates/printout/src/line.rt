@@ -5,11 +5,12 @@ ghost use Rattle.printout.specs.Printouts.{bytes_of};
 
 use crate::interval::{half_width_of, middle_of};
 use crate::refusal::Refusal;
-use crate::words::Word::{Count, Name, Signed};
-use crate::words::{ROOM, Text, line};
+use crate::words::Word::{Count, Name, Signed, Small};
+use crate::words::{LINE_ROOM, Text, line};
 use std::fmt;
 
 // A line of a printout. Offers and columns are numbered from 1 by the caller.
+// A refusal is given by its number, since this crate knows none of those that are printed.
 #[derive(Clone, Copy, PartialEq, Eq, Debug)]
 pub enum Line {
     // The numbers of rows and columns.
@@ -32,24 +33,21 @@ impl Line {
         ensures { result.bytes ≡ bytes_of self }
     {
         match self {
-            Line::Book { rows, columns } => line(
-                "book",
-                &[Count(rows.into()), Count(columns.into())],
-            ),
+            Line::Book { rows, columns } => line("book", &[Small(rows), Small(columns)]),
             Line::Granted { offer, alpha } => line(
                 "offer",
-                &[Count(offer.into()), Name("granted"), Count(alpha)],
+                &[Small(offer), Name("granted"), Count(alpha)],
             ),
             Line::Refused { offer, number } => line(
                 "offer",
-                &[Count(offer.into()), Name("refused"), Count(number.into())],
+                &[Small(offer), Name("refused"), Small(number)],
             ),
             Line::Column { column, low, high } => {
                 let (middle, half_width) = (middle_of(low, high), half_width_of(low, high));
                 line(
                     "column",
                     &[
-                        Count(column.into()),
+                        Small(column),
                         Signed(low),
                         Signed(high),
                         Signed(middle),
@@ -57,8 +55,8 @@ impl Line {
                     ],
                 )
             }
-            Line::NoInterval { column } => line("column", &[Count(column.into()), Name("none")]),
-            Line::FileRefused { number } => line("file", &[Name("refused"), Count(number.into())]),
+            Line::NoInterval { column } => line("column", &[Small(column), Name("none")]),
+            Line::FileRefused { number } => line("file", &[Name("refused"), Small(number)]),
         }
     }
 
@@ -68,7 +66,7 @@ impl Line {
         ensures answer { result ≡ answered (bytes_of self) buffer.old }
         ensures buffer { buffer.new ≡ written (bytes_of self) buffer.old }
     {
-        if buffer.len() < ROOM {
+        if buffer.len() < LINE_ROOM {
             return Err(Refusal::ShortBuffer);
         }
         let text = self.text();

@@ -6,17 +6,14 @@ ghost use Rattle.std.specs.List.{All};
 ghost use Rattle.printout.specs.Printouts.{Fits64, bytes_of, text_of};
 ghost use Rattle.report.specs.Printed.{lines_of, printed, grown};
 
-use printout::Line;
+use printout::{LINE_ROOM, Line};
 use std::alloc::AllocError;
 
 // The bytes of an input that the reader gets, at the most.
 pub const MOST: usize = 65_536;
 
-// The bytes that every line fits into.
-const LINE: usize = 96;
-
 // The bytes that every printout fits into: a line for the book, 16 offers and 8 columns.
-pub const ROOM: usize = 25 * LINE;
+pub const ROOM: usize = 25 * LINE_ROOM;
 
 // The line that a printout begins with: the counts of the book, or why the file is refused.
 fn heading(bytes: &[u8]) -> Line
@@ -28,17 +25,17 @@ fn heading(bytes: &[u8]) -> Line
             columns: header.columns as u8,
         },
         Err(refusal) => Line::FileRefused {
-            number: refusal.number(),
+            number: refusal.into(),
         },
     }
 }
 
-// Adds a line.
+// Adds a line, by way of a buffer, which takes no memory.
 fn add_line(text: &mut Vec<u8>, line: Line)
     requires { vec_len text.old + 96 ≤ vec_capacity text.old }
     ensures { text.new.items ≡ text.old.items ++ bytes_of line }
 {
-    let mut buffer = [0; LINE];
+    let mut buffer = [0; LINE_ROOM];
     let length = line.write_to(&mut buffer).unwrap();
     text.extend_from_slice(&buffer[..length]).unwrap();
 }

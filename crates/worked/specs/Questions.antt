@@ -21,7 +21,7 @@ use Rattle.arithmetic.specs.Operations.{Ops, making, adding, subtracting, multip
 use Rattle.arithmetic.specs.declared.refusal.Refusal.{Refusal}
 use Rattle.ends.specs.Ends as ends
 use Rattle.centre.specs.Centre as centre
-use Rattle.fitfile.specs.declared.layout.Header.{Header}
+use Rattle.fitfile.specs.declared.words.Header.{Header}
 use Rattle.fitfile.specs.declared.refusal.FileRefusal.{FileRefusal}
 use Rattle.fitfile.specs.declared.section.Kind.{Kind}
 use Rattle.fitfile.specs.declared.section.Kind.TheVariants.{Ends, Centre}

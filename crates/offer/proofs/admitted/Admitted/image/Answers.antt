@@ -1,43 +1,41 @@
-use Rattle.std.proofs.Common.{◌≡◌, ◌+◌, ◌^◌, ◌≤◌, ◌⊎◌, ℤ, nat_abs, sym, refl, ◌∙◌, subst, inl, inr, arith}
-use Rattle.exact.specs.Sums.{∑}
-use Rattle.exact.proofs.Sums.{dot}
-use Rattle.offer.specs.Lent.{fit_in}
-use Rattle.offer.proofs.Totals.{MulAdd}
-use Rattle.offer.proofs.Exactly.{image_turn, image_is, image_none, image_small, column}
+use Rattle.std.proofs.Common.{rules, ◌≡◌, ◌^◌, ◌≤◌, ◌*ℤ◌, nat_abs, get_or, arith, ◌∙◌, w64, to_z, subst, sym}
+use Rattle.exact.specs.Offers.{X̂}
+use Rattle.offer.specs.Lent.{fit_in, offer_in, no_row}
+use Rattle.offer.proofs.Facts.{A_small, entry_small, S_small}
+use Rattle.offer.proofs.Totals.{term_small, term_fits, term_is, bits64_same}
+use Rattle.offer.proofs.Exactly.{image_is, image_below, image_past, image_small}
 use Rattle.offer.proofs.admitted.Admitted.image.Goals as goal
-use Rattle.offer.proofs.admitted.Admitted.image.Goals.{then-i-self-via-then-i-self, then-i-self-via-else-i-self+then-j-self}
+use Rattle.offer.proofs.admitted.Admitted.image.Goals.{in-Some, in_default-2, in_default}
 
-outside : (c : goal.Joined-then-i-self) → ((fit_in c.args.self.now).rows ≤ c.args.i) ⊎ ((fit_in c.args.self.now).columns ≤ c.args.j)
-outside c = elim c.then-i-self.branch [
-  | then-i-self-via-then-i-self w ↦ inl w.if-i-self.true
-  | then-i-self-via-else-i-self+then-j-self w ↦ inr w.if-j-self.true
-]
+pub total-units-requires-clause-calls : goal.total-units-requires-clause-calls
+total-units-requires-clause-calls c = λ k l.
+    let a = c.args.self.now in
+    let row : c.in-Some.row.now ≡ get_or a.fit.rows.now c.args.i no_row = search rules in
+    let u = entry_small a c.args.i _ row k in
+    search (rules, term_fits)
 
-pub returns-then-i-self : goal.returns-then-i-self
-returns-then-i-self c = record { value = image_none c.args.self.now c.args.i c.args.j (outside c); size = omega arith }
+pub total-units-requires-clause-small : goal.total-units-requires-clause-small
+total-units-requires-clause-small c = λ k z l p.
+    let a = c.args.self.now in
+    let row : c.in-Some.row.now ≡ get_or a.fit.rows.now c.args.i no_row = search rules in
+    let u = entry_small a c.args.i _ row k in
+    search (rules, term_small)
 
-pub loop-k-init : goal.loop-k-init
-unfolding ∑
-loop-k-init c = refl
-
--- one turn, from the sum x so far
-turn : (c : goal.After-triangle) (x : ℤ) → x ≡ dot c.loop-k.k ((fit_in c.args.self.now).A c.args.i) (column c.args.self.now c.args.i c.args.j)
-    → MulAdd x ((fit_in c.args.self.now).A c.args.i c.loop-k.k) c.triangle.result
-    (dot (c.loop-k.k + 1) ((fit_in c.args.self.now).A c.args.i) (column c.args.self.now c.args.i c.args.j))
-turn c x e =
-    image_turn c.args.self.now c.args.i c.args.j (omega arith) c.loop-k.k (omega arith) x _ _ e refl c.triangle.ensures.value
-
-pub overflow_mul-sum : goal.overflow_mul-sum
-overflow_mul-sum c = (turn c _ c.loop-k.invariant).product
-
-pub overflow_add-sum : goal.overflow_add-sum
-overflow_add-sum c = (turn c _ c.loop-k.invariant).total
-
-pub loop-k-preserved : goal.loop-k-preserved
-loop-k-preserved c = (turn c _ c.loop-k.invariant).is
+is : (c : goal.Joined-get) → to_z w64 c.match-get.units-bits ≡ X̂ (fit_in c.args.self.now) (offer_in c.args.self.now) c.args.i c.args.j
+is c =
+    let a = c.args.self.now in
+    elim c.match-get.branch [
+      | in-Some w ↦
+          let row : w.in-Some.row.now ≡ get_or a.fit.rows.now c.args.i no_row = search rules in
+          let e = w.total-units.ensures (λ k. (fit_in a).A c.args.i k *ℤ (offer_in a).S k c.args.j)
+          (λ k z l p. let u = A_small a c.args.i k in let v = S_small a k c.args.j in search (rules, term_is)) in
+          w.units-is ∙ bits64_same _ _ (e ∙ image_is a c.args.i c.args.j (omega arith)) (omega (arith, image_small a c.args.i c.args.j))
+      | in_default-2 w ↦ w.units-is ∙ image_past a c.args.i c.args.j (omega arith)
+      | in_default w ↦ w.units-is ∙ image_below a c.args.i c.args.j (search rules)
+    ]
 
 pub returns : goal.returns
-returns c =
-    let e : c.loop-k.k ≡ c.args.j + 1 = omega arith in
-    let v = rw e at c.loop-k.invariant ∙ image_is c.args.self.now c.args.i c.args.j (omega arith) in
-    record { value = v; size = subst (λ z. nat_abs z ≤ 2 ^ 57) (sym v) (image_small c.args.self.now c.args.i c.args.j) }
+returns c = is c.before
+
+pub invariant_of-result : goal.invariant_of-result
+invariant_of-result c = record { small = subst (λ z. nat_abs z ≤ 2 ^ 57) (sym (is c)) (image_small c.args.self.now c.args.i c.args.j) }

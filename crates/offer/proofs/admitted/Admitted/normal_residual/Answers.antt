@@ -1,22 +1,41 @@
-use Rattle.std.proofs.Common.{◌≡◌, ◌^◌, ◌≤◌, length, nat_abs, sym, refl, subst, arith}
-use Rattle.exact.specs.Sums.{∑}
-use Rattle.offer.proofs.Exactly.{normal_turn, normal_small}
+use Rattle.std.proofs.Common.{rules, ◌≡◌, ltb, cond, pos, ◌*ℤ◌, arith, ◌∙◌, w64, to_z, tests}
+use Rattle.std.proofs.lemmas.Bool.Decides.{nat_tests}
+use Rattle.exact.specs.Offers.{ρ̂w}
+use Rattle.offer.specs.Lent.{fit_in, offer_in}
+use Rattle.offer.proofs.Facts.{facts, A_small, w_small}
+use Rattle.offer.proofs.Totals.{term_small, term_fits, term_is, bits64_same}
+use Rattle.offer.proofs.Exactly.{normal_small}
 use Rattle.offer.proofs.admitted.Admitted.normal_residual.Goals as goal
+use Rattle.offer.proofs.admitted.Admitted.normal_residual.Goals.{then-k-self, else-k-self}
 
-pub loop-i-init : goal.loop-i-init
-unfolding ∑
-loop-i-init c = refl
+pub total-units-requires-clause-calls : goal.total-units-requires-clause-calls
+total-units-requires-clause-calls c = λ i l.
+    let a = c.args.self.now in
+    let length = (facts a).w_length in
+    search (rules, term_fits, A_small a, w_small a)
 
-pub overflow_mul-sum : goal.overflow_mul-sum
-overflow_mul-sum c = (normal_turn c.args.self.now c.args.k c.loop-i.i (omega arith) _ _ _ c.loop-i.invariant refl refl).product
+pub total-units-requires-clause-small : goal.total-units-requires-clause-small
+total-units-requires-clause-small c = λ i z l p.
+    let a = c.args.self.now in
+    search (rules, term_small, A_small a, w_small a)
 
-pub overflow_add-sum : goal.overflow_add-sum
-overflow_add-sum c = (normal_turn c.args.self.now c.args.k c.loop-i.i (omega arith) _ _ _ c.loop-i.invariant refl refl).total
+is : (c : goal.Joined-k-self) → to_z w64 c.if-k-self.units-bits ≡ cond (ltb c.args.k c.args.self.now.fit.columns) (ρ̂w (fit_in c.args.self.now) (offer_in c.args.self.now) c.args.k) (pos 0)
+is c =
+    let a = c.args.self.now in
+    elim c.if-k-self.branch [
+      | then-k-self w ↦
+          let e = w.total-units.ensures (λ i. (fit_in a).A i c.args.k *ℤ (offer_in a).w i) (λ i z l p. search (rules, term_is, A_small a, w_small a)) in
+          let v = w.units-is ∙ bits64_same _ _ e (omega (arith, normal_small a c.args.k)) in
+          search (rules, tests)
+      | else-k-self w ↦ search (rules, tests)
+    ]
 
-pub loop-i-preserved : goal.loop-i-preserved
-loop-i-preserved c = (normal_turn c.args.self.now c.args.k c.loop-i.i (omega arith) _ _ _ c.loop-i.invariant refl refl).is
+pub returns : goal.returns
+returns c = is c.before
 
-pub returns-clause-size : goal.returns-clause-size
-returns-clause-size c =
-    let e : c.loop-i.i ≡ length c.args.self.now.fit.rows.now = omega arith in
-    subst (λ z. nat_abs z ≤ 2 ^ 57) (sym (rw e at c.loop-i.invariant)) (normal_small c.args.self.now c.args.k)
+pub invariant_of-result : goal.invariant_of-result
+invariant_of-result c =
+    let a = c.args.self.now in
+    let n = normal_small a c.args.k in
+    let e = is c in
+    grind (arith, nat_tests)

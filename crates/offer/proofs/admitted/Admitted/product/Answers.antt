@@ -1,23 +1,27 @@
-use Rattle.std.proofs.Common.{◌≡◌, ◌^◌, ◌≤◌, nat_abs, sym, refl, subst, arith}
-use Rattle.exact.specs.Sums.{∑}
-use Rattle.offer.proofs.Exactly.{product_turn, product_small}
+use Rattle.std.proofs.Common.{rules, ◌^◌, ◌≤◌, ◌*ℤ◌, nat_abs, arith, subst, sym}
+use Rattle.offer.specs.Lent.{fit_in, offer_in}
+use Rattle.offer.proofs.Facts.{A_small, x_small}
+use Rattle.offer.proofs.Totals.{term_small, term_fits, term_is, bits64_same}
+use Rattle.offer.proofs.Exactly.{product_small}
 use Rattle.offer.proofs.admitted.Admitted.product.Goals as goal
 
-pub loop-j-init : goal.loop-j-init
-unfolding ∑
-loop-j-init c = refl
+pub total-requires-clause-calls : goal.total-requires-clause-calls
+total-requires-clause-calls c = λ j l.
+    let a = c.args.self.now in
+    let u = A_small a c.args.i j in
+    let v = x_small a j in
+    search (rules, term_fits)
 
-pub overflow_mul-sum : goal.overflow_mul-sum
-overflow_mul-sum c = (product_turn c.args.self.now c.args.i c.loop-j.j (omega arith) _ _ _ c.loop-j.invariant refl refl).product
-
-pub overflow_add-sum : goal.overflow_add-sum
-overflow_add-sum c = (product_turn c.args.self.now c.args.i c.loop-j.j (omega arith) _ _ _ c.loop-j.invariant refl refl).total
-
-pub loop-j-preserved : goal.loop-j-preserved
-loop-j-preserved c = (product_turn c.args.self.now c.args.i c.loop-j.j (omega arith) _ _ _ c.loop-j.invariant refl refl).is
+pub total-requires-clause-small : goal.total-requires-clause-small
+total-requires-clause-small c = λ j z l p.
+    let a = c.args.self.now in
+    let u = A_small a c.args.i j in
+    let v = x_small a j in
+    search (rules, term_small)
 
 pub returns : goal.returns
 returns c =
-    let e : c.loop-j.j ≡ c.args.self.now.fit.columns = omega arith in
-    let v = rw e at c.loop-j.invariant in
-    record { value = v; size = subst (λ z. nat_abs z ≤ 2 ^ 55) (sym v) (product_small c.args.self.now c.args.i) }
+    let a = c.args.self.now in
+    let small = product_small a c.args.i in
+    let is = bits64_same _ _ (c.total.ensures (λ j. (fit_in a).A c.args.i j *ℤ (offer_in a).x j) (λ j z l p. let u = A_small a c.args.i j in let v = x_small a j in search (rules, term_is))) (omega arith) in
+    record { value = is; size = subst (λ z. nat_abs z ≤ 2 ^ 55) (sym is) small }

@@ -1,21 +1,44 @@
-use Rattle.std.proofs.Common.{ℕ, ◌^◌, ◌<◌, ◌≤◌, ℤ, nat_abs, sym, subst, arith}
-use Rattle.offer.specs.Lent.{fit_in, offer_in}
-use Rattle.offer.proofs.Facts.{facts}
-use Rattle.offer.proofs.Totals.{bits64, bits64_is}
-use Rattle.offer.proofs.Exactly.{residual_none}
+use Rattle.std.proofs.Common.{rules, ◌≡◌, ◌^◌, ◌≤◌, pos, ◌+ℤ◌, ◌-ℤ◌, ◌*ℤ◌, nat_abs, get_or, arith, ◌∙◌, w64, to_z, subst, sym, ap, ap₂}
+use Rattle.std.proofs.lemmas.Int.{ints}
+use Rattle.exact.specs.Fits.{g}
+use Rattle.exact.specs.Offers.{ρ̂x}
+use Rattle.offer.specs.Lent.{fit_in, offer_in, no_row}
+use Rattle.offer.proofs.Facts.{facts, figure_small}
+use Rattle.offer.proofs.Exactly.{residual_is, residual_past, residual_small}
 use Rattle.offer.proofs.admitted.Admitted.residual.Goals as goal
+use Rattle.offer.proofs.admitted.Admitted.residual.Goals.{in-Some, in-None}
 
--- 64 bits keep a number whose size is at most k
-kept : (k : ℕ) (z : ℤ) → k < 2 ^ 63 → nat_abs z ≤ k → nat_abs (bits64 z) ≤ k
-kept k z l h = subst (λ y. nat_abs y ≤ k) (sym (bits64_is z (omega arith))) h
-
-pub residual_of-requires : goal.residual_of-requires
-residual_of-requires c =
+pub overflow_sub-units : goal.overflow_sub-units
+overflow_sub-units c =
     let a = c.args.self.now in
-    let i = c.args.i in (
-      kept (2 ^ 28) ((fit_in a).b i) (omega arith) ((facts a).figures i),
-      (kept (2 ^ 55) c.product.result (omega arith) c.product.ensures.size, kept (2 ^ 25) ((offer_in a).w i) (omega arith) ((facts a).w_small i)),
-    )
+    let row : c.in-Some.row.now ≡ get_or a.fit.rows.now c.args.i no_row = search rules in
+    let figure = figure_small a c.args.i _ row in
+    omega (arith, ints)
 
-pub returns-else-i-self-clause-value : goal.returns-else-i-self-clause-value
-returns-else-i-self-clause-value c = residual_none c.args.self.now c.args.i (omega arith)
+pub overflow_mul-units-in-Some : goal.overflow_mul-units-in-Some
+overflow_mul-units-in-Some c = omega (arith, ints, (facts c.args.self.now).w_small c.args.i)
+
+pub overflow_add-units : goal.overflow_add-units
+overflow_add-units c =
+    let a = c.args.self.now in
+    let row : c.in-Some.row.now ≡ get_or a.fit.rows.now c.args.i no_row = search rules in
+    let figure = figure_small a c.args.i _ row in
+    omega (arith, ints, (facts a).w_small c.args.i)
+
+is : (c : goal.Joined-get) → to_z w64 c.match-get.units-bits ≡ ρ̂x (fit_in c.args.self.now) (offer_in c.args.self.now) c.args.i
+is c =
+    let a = c.args.self.now in
+    elim c.match-get.branch [
+      | in-Some w ↦
+          let row : w.in-Some.row.now ≡ get_or a.fit.rows.now c.args.i no_row = search rules in
+          let figure = figure_small a c.args.i _ row in
+          w.units-is ∙ residual_is w.in-Some.row.now.figure w.product.result ((offer_in a).w c.args.i) figure w.product.ensures.size ((facts a).w_small c.args.i)
+          ∙ ap₂ (λ b y. pos g *ℤ b -ℤ y +ℤ pos g *ℤ (offer_in a).w c.args.i) (ap (λ r. r.figure) row) w.product.ensures.value
+      | in-None w ↦ w.units-is ∙ residual_past a c.args.i (search rules)
+    ]
+
+pub invariant_of-result : goal.invariant_of-result
+invariant_of-result c = record { small = subst (λ z. nat_abs z ≤ 2 ^ 57) (sym (is c)) (residual_small c.args.self.now c.args.i) }
+
+pub returns : goal.returns
+returns c = is c.before

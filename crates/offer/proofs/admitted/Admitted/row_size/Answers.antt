@@ -1,25 +1,27 @@
-use Rattle.std.proofs.Common.{◌≡◌, ◌+◌, ◌^◌, ◌<◌, nat_abs, refl, ap, ◌∙◌, arith}
-use Rattle.exact.specs.Sums.{∑ℕ}
-use Rattle.offer.proofs.Totals.{bits64_is}
-use Rattle.offer.proofs.Exactly.{row_small, row_more, sizes}
+use Rattle.std.proofs.Common.{rules, nat_abs, ◌∙◌, arith}
+use Rattle.std.proofs.lemmas.Iterator.{YieldsList-from_map, YieldsList-from_range}
+use Rattle.std.proofs.lemmas.Iterator.Consumers.{sum_from_yields_List, fits_from_yields_list}
+use Rattle.offer.specs.Lent.{offer_in}
+use Rattle.offer.proofs.Facts.{S_small}
+use Rattle.offer.proofs.Totals.{size_is, sum_is}
+use Rattle.offer.proofs.Exactly.{row_small}
 use Rattle.offer.proofs.admitted.Admitted.row_size.Goals as goal
 
-pub loop-k-init : goal.loop-k-init
-unfolding ∑ℕ
-loop-k-init c = refl
+pub sum-requires-clause-fits : goal.sum-requires-clause-fits
+sum-requires-clause-fits c =
+    let a = c.args.self.now in
+    let n = a.fit.columns in
+    fits_from_yields_list _ _
+    (YieldsList-from_map _ (λ k. nat_abs ((offer_in a).S c.args.j k)) (YieldsList-from_range 0 n n c.map.ensures.source (omega arith)) c.map.ensures.closure
+    (λ k r q p. let small = S_small a c.args.j k in search (rules, size_is)))
+    (omega (arith, sum_is n (λ k. nat_abs ((offer_in a).S c.args.j k)), row_small a c.args.j))
 
--- one turn
-turn : (c : goal.After-unsigned_abs-sum) → c.loop-k.sum + c.unsigned_abs-sum.result ≡ ∑ℕ (c.loop-k.k + 1) (sizes c.args.self.now c.args.j)
-turn c =
-    let small : nat_abs c.triangle.result < 2 ^ 63 = omega arith in
-    row_more c.args.self.now c.args.j c.loop-k.k _ _ c.loop-k.invariant
-    (c.unsigned_abs-sum.ensures.value ∙ ap nat_abs (bits64_is c.triangle.result small ∙ c.triangle.ensures.value))
-
-pub overflow_add-sum : goal.overflow_add-sum
-overflow_add-sum c = omega (arith, turn c, row_small c.args.self.now c.args.j (c.loop-k.k + 1) (omega arith))
-
-pub loop-k-preserved : goal.loop-k-preserved
-loop-k-preserved c = turn c
-
-pub returns-clause-size : goal.returns-clause-size
-returns-clause-size c = omega (arith, c.loop-k.invariant, row_small c.args.self.now c.args.j c.loop-k.k (omega arith))
+pub returns : goal.returns
+returns c =
+    let a = c.args.self.now in
+    let n = a.fit.columns in
+    let is = sum_from_yields_List _ _ c.sum.ensures.ran
+    (YieldsList-from_map _ (λ k. nat_abs ((offer_in a).S c.args.j k)) (YieldsList-from_range 0 n n c.map.ensures.source (omega arith)) c.map.ensures.closure
+    (λ k r q p. let small = S_small a c.args.j k in search (rules, size_is)))
+    ∙ sum_is n (λ k. nat_abs ((offer_in a).S c.args.j k)) in
+    record { value = is; size = omega (arith, row_small a c.args.j) }

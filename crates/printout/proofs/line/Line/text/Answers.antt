@@ -1,35 +1,16 @@
-use Rattle.std.proofs.Common.{◌≡◌, ℕ, [], ◌∷◌, ℤ, codes, sym, ap, ◌∙◌, arith, length-append, append_assoc, rules, w64}
+use Rattle.std.proofs.Common.{◌≡◌, ℕ, [], ◌∷◌, ℤ, codes, sym, ap, ◌∙◌, append_assoc, rules, w64}
 use Rattle.std.proofs.lemmas.Int.{to_z-of_z}
-use Rattle.printout.specs.declared.words.Word.TheVariants.{Count, Signed}
+use Rattle.printout.specs.declared.words.Word.TheVariants.{Small, Signed}
 use Rattle.printout.specs.Lines.{column_line, middle, half_width}
 use Rattle.printout.specs.Printouts.{bytes_of}
 use Rattle.printout.specs.Words.{line_of}
-use Rattle.printout.proofs.Shorts.{shorts}
 use Rattle.printout.proofs.line.Line.text.Goals as goal
 
-pub line-requires : goal.line-requires
-line-requires c = simp length-append (omega (arith, shorts))
-
-pub line-requires-in-Granted : goal.line-requires-in-Granted
-line-requires-in-Granted c = simp length-append (omega (arith, shorts))
-
-pub line-requires-in-Refused : goal.line-requires-in-Refused
-line-requires-in-Refused c = simp length-append (omega (arith, shorts))
-
-pub line-requires-in-Column : goal.line-requires-in-Column
-line-requires-in-Column c = simp length-append (omega (arith, shorts))
-
-pub line-requires-in-NoInterval : goal.line-requires-in-NoInterval
-line-requires-in-NoInterval c = simp length-append (omega (arith, shorts))
-
-pub line-requires-in-FileRefused : goal.line-requires-in-FileRefused
-line-requires-in-FileRefused c = simp length-append (omega (arith, shorts))
-
 -- the line of the numbers as they are passed
-column_same : (i j : ℕ) (a l b h m e : ℤ) → i ≡ j → a ≡ l → b ≡ h → m ≡ middle a b → e ≡ half_width a b
-    → line_of (codes "column") (Count i ∷ Signed a ∷ Signed b ∷ Signed m ∷ Signed e ∷ []) ≡ column_line j l h
+column_same : (j : ℕ) (a l b h m e : ℤ) → a ≡ l → b ≡ h → m ≡ middle a b → e ≡ half_width a b
+    → line_of (codes "column") (Small j ∷ Signed a ∷ Signed b ∷ Signed m ∷ Signed e ∷ []) ≡ column_line j l h
 unfolding column_line
-column_same i j a l b h m e p q r s t = simp append_assoc cc
+column_same j a l b h m e p q r s = simp append_assoc cc
 
 pub returns-in-Column : goal.returns-in-Column
 returns-in-Column c =
@@ -37,4 +18,4 @@ returns-in-Column c =
     let high = to_z-of_z w64 c.in-Column.high (search rules) in
     let middle = to_z-of_z w64 c.middle_of-middle.result (record { sfits = c.middle_of-middle.type_inv }) ∙ c.middle_of-middle.ensures in
     let half = to_z-of_z w64 c.half_width_of-half_width.result (record { sfits = c.half_width_of-half_width.type_inv }) ∙ c.half_width_of-half_width.ensures in
-    c.line-in-Column.ensures ∙ column_same _ _ _ _ _ _ _ _ c.into-in-Column.ensures low high middle half ∙ ap bytes_of (sym c.in-Column.is)
+    c.line-in-Column.ensures ∙ column_same _ _ _ _ _ _ _ low high middle half ∙ ap bytes_of (sym c.in-Column.is)
