@@ -1,9 +1,8 @@
 -- Products of numbers that lie in two intervals: what holds at the four corners holds within. Assumes nothing.
-use Rattle.std.proofs.Common.{◌≡◌, ℕ, ◌+◌, ◌*◌, ◌^◌, ◌≤◌, ℤ, pos, negsuc, ◌+ℤ◌, ◌-ℤ◌, ◌*ℤ◌, nat_abs, ◌≤ℤ◌, refl, le_trans, mul-le-mul, arith, w64, SFits}
+use Rattle.std.proofs.Common.{◌≡◌, ℕ, ◌+◌, ◌*◌, ◌≤◌, ℤ, pos, negsuc, ◌+ℤ◌, ◌-ℤ◌, ◌*ℤ◌, nat_abs, ◌≤ℤ◌, refl, mul-le-mul, arith}
 use lib.IntN.{*ℤ_comm}
 use lib.Signed.{≤ℤ_refl}
-use Rattle.std.proofs.lemmas.Int.{ints, by_lt_z}
-use Rattle.exact.proofs.Ints.{nat_abs_mul}
+use Rattle.std.proofs.lemmas.Int.{ints, by_lt_z, unsigned_abs-mul}
 use Rattle.exact.proofs.Ring.{◌⊕◌, ◌⊖◌, ◌⊗◌, ◌≈◌, ring}
 use Rattle.arithmetic.specs.Intervals.{Interval, size, width, Holds}
 
@@ -78,7 +77,7 @@ corners_below i j e u v c p q = below_left i e u v p (at i.low c.low_low c.low_h
 
 -- ---- sizes
 pub product_within : (x y : ℤ) (m n : ℕ) → nat_abs x ≤ m → nat_abs y ≤ n → nat_abs (x *ℤ y) ≤ m * n
-product_within x y m n p q = rw (nat_abs_mul x y) (mul-le-mul p q)
+product_within x y m n p q = rw (unsigned_abs-mul x y) (mul-le-mul p q)
 
 pub sum_within : (z x y : ℤ) (m n : ℕ) → z ≡ x +ℤ y → nat_abs x ≤ m → nat_abs y ≤ n → nat_abs z ≤ m + n
 sum_within z x y m n e p q = omega (arith, ints)
@@ -91,10 +90,6 @@ width_above i u u' h h' = let p = h.above in let q = h.below in let p' = h'.abov
 
 pub product_size : (i j : Interval) (u v : ℤ) → Holds i u → Holds j v → nat_abs (u *ℤ v) ≤ size i * size j
 product_size i j u v p q = product_within u v (size i) (size j) (size_above i u p) (size_above j v q)
-
--- a product of two numbers whose sizes may be multiplied fits 64 bits
-pub product_fits : (x y : ℤ) (m n : ℕ) → nat_abs x ≤ m → nat_abs y ≤ n → m * n ≤ 2 ^ 62 → SFits w64 (x *ℤ y)
-product_fits x y m n p q small = let h = le_trans (product_within x y m n p q) small in omega (arith, ints)
 
 -- two products of numbers of i and of j differ by at most what the sizes and widths allow
 pub products_apart : (i j : Interval) (u v u' v' : ℤ) → Holds i u → Holds j v → Holds i u' → Holds j v'

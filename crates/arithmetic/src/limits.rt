@@ -7,8 +7,11 @@ ghost use Rattle.arithmetic.specs.declared.refusal.Refusal.TheVariants.{Making, 
 
 use crate::refusal::Refusal;
 
+// A grain is this many halvings of one.
+pub(crate) const HALVINGS: u32 = 24;
+
 // The value one, in grains.
-pub const ONE: i64 = 1 << 24;
+pub const ONE: i64 = 1 << HALVINGS;
 
 // The largest size of a value, in grains.
 pub const LARGEST: u64 = 1 << 45;
@@ -21,7 +24,7 @@ pub fn size_of(low: i64, high: i64) -> u64
 }
 
 // Whether the ends are in order, and their size is at most so many grains.
-fn is_proper(most: u64, low: i64, high: i64) -> bool
+fn is_proper(low: i64, high: i64, most: u64) -> bool
     ensures { result ≡ proper most (between low high) }
 {
     low <= high && size_of(low, high) <= most
@@ -31,14 +34,14 @@ fn is_proper(most: u64, low: i64, high: i64) -> bool
 pub fn may_mean(low: i64, high: i64) -> bool
     ensures { result ≡ proper (2 ^ 45) (between low high) }
 {
-    is_proper(LARGEST, low, high)
+    is_proper(low, high, LARGEST)
 }
 
 // Whether a value may be made from these ends.
 pub fn may_make(low: i64, high: i64) -> bool
     ensures { result ≡ proper (2 ^ 44) (between low high) }
 {
-    is_proper(1 << 44, low, high)
+    is_proper(low, high, 1 << 44)
 }
 
 // Whether a sum or a difference of this size stands.
@@ -52,29 +55,34 @@ pub fn may_stand(size: u64) -> bool
 pub fn may_multiply(size: u64, other: u64) -> bool
     ensures { result ≡ nat_le (size * other) (2 ^ 62) }
 {
-    let product = size as u128 * other as u128;
-    product <= 1 << 62
+    size.checked_mul(other)
+        .is_some_and(|product| product <= 1 << 62)
+}
+
+// The refusal, unless the test holds.
+fn checked(holds: bool, refusal: Refusal) -> Result<(), Refusal>
+    ensures { result ≡ checked holds refusal }
+{
+    if holds { Ok(()) } else { Err(refusal) }
 }
 
 // A refusal, unless a value may be made from these ends.
 pub fn check_making(low: i64, high: i64) -> Result<(), Refusal>
     ensures { result ≡ checked (proper (2 ^ 44) (between low high)) Making }
 {
-    may_make(low, high).then_some(()).ok_or(Refusal::Making)
+    checked(may_make(low, high), Refusal::Making)
 }
 
 // A refusal, unless a sum or a difference of this size stands.
 pub fn check_sum(size: u64) -> Result<(), Refusal>
     ensures { result ≡ checked (nat_le size (2 ^ 45)) Sum }
 {
-    may_stand(size).then_some(()).ok_or(Refusal::Sum)
+    checked(may_stand(size), Refusal::Sum)
 }
 
 // A refusal, unless values of these sizes may be multiplied.
 pub fn check_product(size: u64, other: u64) -> Result<(), Refusal>
     ensures { result ≡ checked (nat_le (size * other) (2 ^ 62)) Product }
 {
-    may_multiply(size, other)
-        .then_some(())
-        .ok_or(Refusal::Product)
+    checked(may_multiply(size, other), Refusal::Product)
 }

@@ -1,8 +1,7 @@
-// Why an arithmetic refuses.
+// Why an arithmetic refuses. A refusal's number is its discriminant.
 ghost use Rattle.std.specs.Prelude.{◌≡◌};
 ghost use Rattle.arithmetic.specs.Refusals.{number};
 
-// Each with its number.
 #[derive(Clone, Copy, PartialEq, Eq, Debug)]
 pub enum Refusal {
     Making = 14,

@@ -2,12 +2,14 @@
 ghost use Rattle.std.specs.Prelude.{◌≡◌};
 ghost use Rattle.arithmetic.specs.Rounding.{floored, ceiled, Floor, Ceiling};
 
+use crate::limits::{HALVINGS, ONE};
+
 // z / g, rounded down.
 pub fn floor_grains(z: i64) -> i64
     ensures value { result ≡ floored z }
     ensures floor { Floor z result }
 {
-    z >> 24
+    z >> HALVINGS
 }
 
 // z / g, rounded up.
@@ -15,5 +17,5 @@ pub fn ceil_grains(z: i64) -> i64
     ensures value { result ≡ ceiled z }
     ensures ceiling { Ceiling z result }
 {
-    ((z as i128 + 0xff_ffff) >> 24) as i64
+    ((i128::from(z) + i128::from(ONE - 1)) >> HALVINGS) as i64
 }

@@ -1,5 +1,6 @@
 -- The centre arithmetic: a value keeps a centre and a radius. Assumes nothing.
 --     kept c r        the record that holds the centre c and the radius r, in grains
+--     extent v        how far the ends of v lie from 0 at the most, in grains
 --     about v         the interval from centre - radius to centre + radius
 --     means v         what a record means: these two ends, or 0 to 0 where they are no two ends of a value
 --     meant v         the record that holds what v means
@@ -21,6 +22,9 @@ use Rattle.centre.specs.declared.Centre.{Centre}
 
 abbrev pub kept : ℤ → ℕ → Centre
 kept c r = record { centre = c; radius = r }
+
+abbrev pub extent : Centre → ℕ
+extent v = unsigned_abs v.centre + v.radius
 
 abbrev pub about : Centre → Interval
 about v = between (v.centre -ℤ pos v.radius) (v.centre +ℤ pos v.radius)

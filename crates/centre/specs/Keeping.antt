@@ -5,9 +5,8 @@ use Rattle.std.proofs.Common.{sym, subst, ◌∙◌, le_refl}
 use native.Mathlib.Omega.{arith}
 use Rattle.std.proofs.Math.Nat.{le_trans}
 use borrow.Author.Differences.{up, down}
-use Rattle.std.proofs.lemmas.Int.{ints}
+use Rattle.std.proofs.lemmas.Int.{ints, unsigned_abs-mul}
 use Rattle.exact.specs.Fits.{g}
-use Rattle.exact.proofs.Ints.{nat_abs_mul}
 use Rattle.exact.proofs.Ring.{◌⊕◌, ◌⊖◌, ◌⊗◌, ◌≈◌, ring}
 use Rattle.arithmetic.specs.Intervals.{between, size, width, proper, added, subtracted, or_zero, Holds, MadeFrom, ProductOf}
 use Rattle.arithmetic.specs.Rounding.{ceiled}
@@ -102,7 +101,7 @@ module _ (z : ℤ) (n : ℕ) where
 module _ (a b : Centre) where
   product_sizes : size (about a) * size (about b) ≡ unsigned_abs (a.centre *ℤ b.centre) + spread a b
   unfolding spread
-  product_sizes = rw (size-about a, size-about b, nat_abs_mul a.centre b.centre) (omega arith)
+  product_sizes = rw (size-about a, size-about b, unsigned_abs-mul a.centre b.centre) (omega arith)
 
   spread_widths : 2 * spread a b + 4 * g ≤ size (about a) * width (about b) + size (about b) * width (about a) + 4 * g
   unfolding spread

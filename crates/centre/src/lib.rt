@@ -1,9 +1,9 @@
 // The arithmetic that keeps the centre and the radius of an interval.
 #![tactic(auto)]
 
-ghost use Rattle.std.specs.Prelude.{◌≡◌, ◌+◌, ◌*◌, ◌^◌, ◌≤◌, pos, unsigned_abs};
+ghost use Rattle.std.specs.Prelude.{◌≡◌, ◌+◌, ◌-◌, ◌*◌, ◌^◌, ◌≤◌, min, pos, unsigned_abs};
 ghost use Rattle.arithmetic.specs.Rounding.{ceiled};
-ghost use Rattle.centre.specs.Centre.{meant, halved, spread, product, settled, centre_ops};
+ghost use Rattle.centre.specs.Centre.{extent, meant, halved, spread, product, settled, centre_ops};
 ghost use Rattle.centre.specs.Keeping.{centre_rules};
 
 use arithmetic::{
@@ -18,12 +18,19 @@ pub struct Centre {
 }
 
 impl Centre {
+    // How far the record's ends lie from 0 at the most; the largest number where that is more.
+    fn extent(self) -> u64
+        ensures { result ≡ min (extent self) (2 ^ 64 - 1) }
+    {
+        self.centre.unsigned_abs().saturating_add(self.radius)
+    }
+
     // The centre and the radius that the record means.
     fn meant(self) -> Centre
         ensures value { result ≡ meant self }
-        ensures bound { unsigned_abs result.centre + result.radius ≤ 2 ^ 45 }
+        ensures bound { extent result ≤ 2 ^ 45 }
     {
-        if self.radius <= LARGEST && self.centre.unsigned_abs() + self.radius <= LARGEST {
+        if self.extent() <= LARGEST {
             self
         } else {
             Centre {
@@ -35,7 +42,7 @@ impl Centre {
 
     // How far a product can lie from that of the centres, in units of 2^-48.
     fn spread(self, other: Centre) -> u64
-        requires { (unsigned_abs self.centre + self.radius) * (unsigned_abs other.centre + other.radius) ≤ 2 ^ 62 }
+        requires { extent self * extent other ≤ 2 ^ 62 }
         ensures value { result ≡ spread self other }
         ensures bound { result ≤ 2 ^ 62 }
     {
@@ -45,7 +52,7 @@ impl Centre {
 
     // The product of two records that hold what they mean.
     fn times(self, other: Centre) -> Centre
-        requires { (unsigned_abs self.centre + self.radius) * (unsigned_abs other.centre + other.radius) ≤ 2 ^ 62 }
+        requires { extent self * extent other ≤ 2 ^ 62 }
         ensures { result ≡ product self other }
     {
         Centre {
@@ -60,7 +67,7 @@ fn radius_of(spread: u64) -> u64
     requires { spread ≤ 2 ^ 62 }
     ensures { result ≡ unsigned_abs (ceiled (pos spread)) + 1 }
 {
-    ceil_grains(spread as i64) as u64 + 1
+    ceil_grains(spread as i64).unsigned_abs() + 1
 }
 
 // z / 2, rounded down.
@@ -73,11 +80,11 @@ fn half(z: i64) -> i64
 // The centre and the radius of a sum or a difference, if it is small enough.
 #[tactic(auto, unfolding(crate::specs::Centre::settled))]
 fn settle(centre: i64, radius: u64) -> Result<Centre, Refusal>
-    requires { radius ≤ 2 ^ 46 }
     ensures { result ≡ settled centre radius }
 {
-    check_sum(centre.unsigned_abs() + radius)?;
-    Ok(Centre { centre, radius })
+    let value = Centre { centre, radius };
+    check_sum(value.extent())?;
+    Ok(value)
 }
 
 impl Arithmetic for Centre {
@@ -85,6 +92,7 @@ impl Arithmetic for Centre {
 
     ghost rules = { centre_rules };
 
+    #[tactic(auto, unfolding(arithmetic::specs::Operations::making))]
     fn make(low: i64, high: i64) -> Result<Centre, Refusal> {
         check_making(low, high)?;
         let centre = half(low + high);
@@ -119,7 +127,6 @@ impl Arithmetic for Centre {
     }
 
     fn size(self) -> u64 {
-        let a = self.meant();
-        a.centre.unsigned_abs() + a.radius
+        self.meant().extent()
     }
 }

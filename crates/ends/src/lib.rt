@@ -41,29 +41,17 @@ impl Ends {
     {
         let (p, q) = (self.low * other.low, self.low * other.high);
         let (s, t) = (self.high * other.low, self.high * other.high);
-        round_out(least(p, q, s, t), greatest(p, q, s, t))
+        round_out(p, q, s, t)
     }
 }
 
-fn least(p: i64, q: i64, s: i64, t: i64) -> i64
-    ensures { result ≡ int_min (int_min (int_min p q) s) t }
-{
-    p.min(q).min(s).min(t)
-}
-
-fn greatest(p: i64, q: i64, s: i64, t: i64) -> i64
-    ensures { result ≡ int_max (int_max (int_max p q) s) t }
-{
-    p.max(q).max(s).max(t)
-}
-
-// Two numbers of 2^-48, in grains: the first rounded down and the second rounded up.
-fn round_out(low: i64, high: i64) -> Ends
-    ensures { result ≡ kept (between (floored low) (ceiled high)) }
+// The least of four numbers of 2^-48, rounded down to grains, and the greatest, rounded up.
+fn round_out(p: i64, q: i64, s: i64, t: i64) -> Ends
+    ensures { result ≡ kept (between (floored (int_min (int_min (int_min p q) s) t)) (ceiled (int_max (int_max (int_max p q) s) t))) }
 {
     Ends {
-        low: floor_grains(low),
-        high: ceil_grains(high),
+        low: floor_grains(p.min(q).min(s).min(t)),
+        high: ceil_grains(p.max(q).max(s).max(t)),
     }
 }
 
@@ -99,7 +87,7 @@ impl Arithmetic for Ends {
 
     fn product(self, other: Ends) -> Result<Ends, Refusal> {
         let (a, b) = (self.meant(), other.meant());
-        check_product(size_of(a.low, a.high), size_of(b.low, b.high))?;
+        check_product(self.size(), other.size())?;
         Ok(a.outward(b))
     }
 
