@@ -1,5 +1,5 @@
 // The printed lines, at ordinary and at extreme numbers.
-use printout::{Line, Refusal};
+use printout::{LINE_ROOM, Line, Refusal};
 use std::process::Abort;
 use std::test::Fail;
 
@@ -12,6 +12,11 @@ fn shows(rt: &impl Abort, buffer: &mut [u8], line: Line, text: &[u8]) -> Result<
     Ok(())
 }
 
+// The same in the shortest buffer that every line fits into.
+fn shows_barely(rt: &impl Abort, line: Line, text: &[u8]) -> Result<(), Fail> {
+    shows(rt, &mut [b'.'; LINE_ROOM], line, text)
+}
+
 fn shows_column(rt: &impl Abort, column: u8, low: i64, high: i64, text: &[u8]) -> Result<(), Fail> {
     let line = Line::Column { column, low, high };
     shows(rt, &mut [b'.'; 100], line, text)
@@ -19,9 +24,8 @@ fn shows_column(rt: &impl Abort, column: u8, low: i64, high: i64, text: &[u8]) -
 
 #[test]
 fn prints_a_book(rt: HostRuntime) -> Result<(), Fail> {
-    shows(
+    shows_barely(
         &rt,
-        &mut [b'.'; 96],
         Line::Book {
             rows: 64,
             columns: 8,
@@ -36,21 +40,14 @@ fn prints_offers(rt: HostRuntime) -> Result<(), Fail> {
         offer: 16,
         alpha: u64::MAX,
     };
-    shows(
+    shows_barely(&rt, largest, b"offer 16 granted 18446744073709551615\n")?;
+    shows_barely(
         &rt,
-        &mut [b'.'; 96],
-        largest,
-        b"offer 16 granted 18446744073709551615\n",
-    )?;
-    shows(
-        &rt,
-        &mut [b'.'; 96],
         Line::Granted { offer: 1, alpha: 0 },
         b"offer 1 granted 0\n",
     )?;
-    shows(
+    shows_barely(
         &rt,
-        &mut [b'.'; 96],
         Line::Refused {
             offer: 2,
             number: 10,
@@ -61,12 +58,7 @@ fn prints_offers(rt: HostRuntime) -> Result<(), Fail> {
 
 #[test]
 fn prints_a_refused_file(rt: HostRuntime) -> Result<(), Fail> {
-    shows(
-        &rt,
-        &mut [b'.'; 96],
-        Line::FileRefused { number: 4 },
-        b"file refused 4\n",
-    )
+    shows_barely(&rt, Line::FileRefused { number: 4 }, b"file refused 4\n")
 }
 
 #[test]
@@ -82,12 +74,7 @@ fn prints_columns(rt: HostRuntime) -> Result<(), Fail> {
     shows_column(&rt, 2, 0, 3, b"column 2 0 3 1 1\n")?;
     shows_column(&rt, 3, 3, 0, b"column 3 3 0 1 -1\n")?;
     shows_column(&rt, 4, -3, 0, b"column 4 -3 0 -2 1\n")?;
-    shows(
-        &rt,
-        &mut [b'.'; 96],
-        Line::NoInterval { column: 5 },
-        b"column 5 none\n",
-    )
+    shows_barely(&rt, Line::NoInterval { column: 5 }, b"column 5 none\n")
 }
 
 #[test]

@@ -1,6 +1,7 @@
 -- Words and numbers of a file that is cut into chunks of equal length. Assumes nothing.
 use Rattle.std.proofs.Common.{◌≡◌, ℕ, zero, suc, ◌+◌, ◌*◌, ◌<◌, ◌≤◌, List, get_or, take, drop, ap, suc-mul, arith, w64, to_z}
 use Rattle.std.proofs.lemmas.List.{drop-drop, get_or-drop, get_or-take}
+use Rattle.std.specs.Int.{from_le_bytes}
 use Rattle.std.specs.Simd.{first_chunks}
 use Rattle.fitfile.specs.Bytes.{word, bits, number}
 
@@ -16,8 +17,8 @@ get_or-chunked n (suc k) xs (suc i) d h =
 pub word_chunk : (n k : ℕ) (bs : List ℕ) (i o : ℕ) (d : List ℕ) → i < k → o + 4 ≤ n → word (get_or (first_chunks n k bs) i d) o ≡ word bs (i * n + o)
 word_chunk n k bs i o d h room = let chunk = get_or-chunked n k bs i d h in grind (arith, get_or-take, get_or-drop)
 
--- the number of the chunk at i
-pub number_chunk : (k : ℕ) (bs : List ℕ) (i : ℕ) (d : List ℕ) → i < k → number (get_or (first_chunks 8 k bs) i d) 0 ≡ number bs (8 * i)
+-- the number of the chunk at i, as the library reads it
+pub number_chunk : (k : ℕ) (bs : List ℕ) (i : ℕ) (d : List ℕ) → i < k → to_z w64 (from_le_bytes w64 (get_or (first_chunks 8 k bs) i d)) ≡ number bs (8 * i)
 number_chunk k bs i d h =
-    let same : bits (get_or (first_chunks 8 k bs) i d) 0 ≡ bits bs (8 * i) = grind (arith, word_chunk 8 k bs i 0 d h, word_chunk 8 k bs i 4 d h) in
+    let same : from_le_bytes w64 (get_or (first_chunks 8 k bs) i d) ≡ bits bs (8 * i) = grind (arith, word_chunk 8 k bs i 0 d h, word_chunk 8 k bs i 4 d h) in
     ap (to_z w64) same

@@ -7,10 +7,11 @@ use Rattle.std.proofs.lemmas.List.Elements.{All-head, All-tail}
 use Rattle.std.proofs.lemmas.Option.{slice_get-get_or, slice_get_past}
 use Rattle.std.proofs.lemmas.Int.{to_z-of_z}
 use Rattle.std.proofs.lemmas.Bool.Decides.{nat_tests}
+use Rattle.std.specs.Int.{from_le_bytes}
 use Rattle.std.specs.List.{slice_get, flat_map, All}
 use Rattle.std.specs.Option as options
 use Rattle.fitfile.specs.declared.words.Header.{Header}
-use Rattle.fitfile.specs.Bytes.{word, bits, number}
+use Rattle.fitfile.specs.Bytes.{word, number}
 use Rattle.fitfile.specs.Header.{header_of, rows_at, figures_at, offers_at, offer_length, file_length, in_range}
 use Rattle.fitfile.specs.Sections.{Plain, numbers, number_at, cut, offer_of, kind_by}
 use Rattle.fitfile.specs.Sections as sections
@@ -43,7 +44,7 @@ cut-joined f n (x ∷ xs) (suc i) d each h =
     cc (drop-drop (i * n) n (f x ++ flat_map f xs), drop_at (f x) (flat_map f xs) n first, cut-joined f n xs i d others (omega arith))
 
 -- the eight bytes of a number spell it
-bits-number : (z : ℤ) → SFits w64 z → bits (number_bytes z) 0 ≡ of_z w64 z
+bits-number : (z : ℤ) → SFits w64 z → from_le_bytes w64 (number_bytes z) ≡ of_z w64 z
 bits-number z h = let below = Fits-of_z h in omega arith
 
 numbers_long : (zs : List ℤ) → All (λ z. length (number_bytes z) ≡ 8) zs

@@ -6,10 +6,14 @@ ghost use Rattle.fitfile.specs.Header.{in_range, agrees, header_of, figures_at, 
 use crate::refusal::FileRefusal;
 use crate::words::{Header, Words};
 
+// The bytes of a number.
+pub(crate) const NUMBER: usize = 8;
+
 // Where the rows begin: after the header.
 pub(crate) const ROWS_AT: usize = 32;
 
 // Counts within their limits, and so the places and lengths that they ask for.
+// The bytes are no part of it: they would need a second invariant, on their length, and the answers borrow from the bytes alone.
 #[derive(Clone, Copy)]
 pub(crate) struct Layout {
     pub counts: Header,
@@ -55,14 +59,14 @@ impl Layout {
     pub(crate) fn figures_at(&self) -> usize
         ensures { result ≡ figures_at self.now.counts }
     {
-        ROWS_AT + 8 * (self.counts.rows * self.counts.columns)
+        ROWS_AT + NUMBER * (self.counts.rows * self.counts.columns)
     }
 
     // Where the offers begin.
     pub(crate) fn offers_at(&self) -> usize
         ensures { result ≡ offers_at self.now.counts }
     {
-        self.figures_at() + 8 * self.counts.rows
+        self.figures_at() + NUMBER * self.counts.rows
     }
 
     // The bytes of one offer.
@@ -70,7 +74,7 @@ impl Layout {
         ensures { result ≡ offer_length self.now.counts }
     {
         let Header { rows, columns, .. } = self.counts;
-        8 + 8 * (columns * (columns + 1) / 2 + columns + rows)
+        8 + NUMBER * (columns * (columns + 1) / 2 + columns + rows)
     }
 
     // The bytes of the whole file.
@@ -80,7 +84,8 @@ impl Layout {
         self.offers_at() + self.counts.offers * self.offer_length()
     }
 
-    // Whether the words give the places and lengths that the counts ask for. (A derived == needs a second Words, which is as long.)
+    // Whether the words give the places and lengths that the counts ask for.
+    // A derived == would need a second Words, which is as long.
     fn agrees(&self, words: &Words) -> bool
         ensures { result ≡ agrees self.now.counts words.now }
     {

@@ -12,7 +12,7 @@ mod refusal;
 mod section;
 mod words;
 
-use layout::{Layout, ROWS_AT};
+use layout::{Layout, NUMBER, ROWS_AT};
 pub use refusal::{FileRefusal, OfferRefusal};
 pub use section::{Kind, Part, Section};
 pub use words::Header;
@@ -32,7 +32,7 @@ pub fn rows(bytes: &[u8]) -> Result<Section<'_>, FileRefusal>
     ensures { shown result ≡ rows_of bytes.now }
 {
     let Header { rows, columns, .. } = Layout::read(bytes)?.counts;
-    Ok(Section::Rows(Part::cut(bytes, ROWS_AT, 8 * (rows * columns))))
+    Ok(Section::Rows(Part::cut(bytes, ROWS_AT, NUMBER * (rows * columns))))
 }
 
 // The figures of the fit, one for each row.
@@ -40,7 +40,7 @@ pub fn figures(bytes: &[u8]) -> Result<Section<'_>, FileRefusal>
     ensures { shown result ≡ figures_of bytes.now }
 {
     let layout = Layout::read(bytes)?;
-    Ok(Section::Figures(Part::cut(bytes, layout.figures_at(), 8 * layout.counts.rows)))
+    Ok(Section::Figures(Part::cut(bytes, layout.figures_at(), NUMBER * layout.counts.rows)))
 }
 
 // The offer at an index, or none where the file has no more.

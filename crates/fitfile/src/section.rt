@@ -1,8 +1,8 @@
 // The sections of a fit file, and the numbers in them.
 ghost use Rattle.std.specs.Prelude.{◌≡◌, ◌+◌, ◌≤◌, length};
-ghost use Rattle.fitfile.specs.Bytes.{number};
 ghost use Rattle.fitfile.specs.Sections.{cut, plain, numbers, number_at, kind_of};
 
+use crate::layout::NUMBER;
 use crate::refusal::OfferRefusal;
 
 // A part of a file: where it begins, and its bytes, which are the file's own.
@@ -13,6 +13,7 @@ pub struct Part<'a> {
 }
 
 // A section of a fit file. Its part is lent by the caller, so that reading needs no memory.
+// All three hold a part, since users ask for a section by which one it is, with its place and the file's own bytes.
 #[derive(Clone, Copy)]
 pub enum Section<'a> {
     Rows(Part<'a>),
@@ -41,13 +42,6 @@ impl<'a> Part<'a> {
     }
 }
 
-// The number in two's complement that eight bytes spell, low byte first.
-fn signed(bytes: [u8; 8]) -> i64
-    ensures { result ≡ number bytes 0 }
-{
-    i64::from_le_bytes(bytes)
-}
-
 impl<'a> Section<'a> {
     // The bytes of the section's numbers: an offer's follow its two words.
     fn numbers(&self) -> &'a [u8]
@@ -55,7 +49,7 @@ impl<'a> Section<'a> {
     {
         match self {
             Section::Rows(part) | Section::Figures(part) => part.bytes,
-            Section::Offer(part) => part.bytes.get(8..).unwrap_or(&[]),
+            Section::Offer(part) => part.bytes.get(8..).unwrap_or_default(),
         }
     }
 
@@ -64,8 +58,8 @@ impl<'a> Section<'a> {
     pub fn number(&self, index: usize) -> Option<i64>
         ensures { result ≡ number_at (plain self.now) index }
     {
-        let (numbers, _) = self.numbers().as_chunks::<8>();
-        numbers.get(index).copied().map(signed)
+        let (numbers, _) = self.numbers().as_chunks::<NUMBER>();
+        numbers.get(index).copied().map(i64::from_le_bytes)
     }
 }
 

@@ -31,7 +31,8 @@ impl Header {
     }
 }
 
-// The unsigned word that four bytes spell, low byte first. (No From: neither type is of this crate.)
+// The unsigned word that four bytes spell, low byte first.
+// It is a function and no From, since neither type is of this crate.
 fn unsigned(bytes: [u8; 4]) -> usize
     ensures { result ≡ word bytes 0 }
 {
@@ -40,6 +41,7 @@ fn unsigned(bytes: [u8; 4]) -> usize
 
 impl Words {
     // The eight words that begin the bytes, where there are so many; one pattern names them in their order.
+    // Each is read by itself: what `.map(unsigned)` gives at each place would need a proof file, and this needs none.
     #[tactic(auto, using(crate::proofs::Chunks::word_chunk))]
     pub(crate) fn read(bytes: &[u8]) -> Option<Self>
         ensures { MatchOption result (length bytes.now < 32) (λ w. (32 ≤ length bytes.now) × (w ≡ words_of bytes.now)) }
@@ -54,22 +56,18 @@ impl Words {
             offers_at,
             offer_length,
             file_length,
-            ..
-        ] = chunks
-        else {
-            return None;
-        };
+        ] = *chunks.first_chunk::<8>()?;
         Some(Words {
             counts: Header {
-                rows: unsigned(*rows),
-                columns: unsigned(*columns),
-                offers: unsigned(*offers),
+                rows: unsigned(rows),
+                columns: unsigned(columns),
+                offers: unsigned(offers),
             },
-            rows_at: unsigned(*rows_at),
-            figures_at: unsigned(*figures_at),
-            offers_at: unsigned(*offers_at),
-            offer_length: unsigned(*offer_length),
-            file_length: unsigned(*file_length),
+            rows_at: unsigned(rows_at),
+            figures_at: unsigned(figures_at),
+            offers_at: unsigned(offers_at),
+            offer_length: unsigned(offer_length),
+            file_length: unsigned(file_length),
         })
     }
 }

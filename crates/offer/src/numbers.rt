@@ -25,16 +25,23 @@ fn total<F: Fn(usize) -> i64>(n: usize, term: F) -> i64
 }
 
 impl Admitted<'_> {
+    // S.
+    fn s(&self) -> Triangle<'_>
+        ensures columns { result.columns ≡ self.now.fit.columns }
+        ensures numbers { result.numbers.now ≡ self.now.offer.s.now }
+    {
+        Triangle {
+            columns: self.fit.columns,
+            numbers: self.offer.s,
+        }
+    }
+
     // S in row k and column j, in grains.
     pub fn triangle(&self, k: usize, j: usize) -> i64
         ensures value { result ≡ (offer_in self.now).S k j }
         ensures size { unsigned_abs result ≤ 2 ^ 30 }
     {
-        let s = Triangle {
-            columns: self.fit.columns,
-            numbers: self.offer.s,
-        };
-        s.at(k, j)
+        self.s().at(k, j)
     }
 
     // A S in row i and column j.
@@ -64,6 +71,7 @@ impl Admitted<'_> {
     pub fn residual(&self, i: usize) -> ExactNumber
         ensures { result.units ≡ ρ̂x (fit_in self.now) (offer_in self.now) i }
     {
+        // A `match`, since the search does not prove what the closure of a `map_or` asks of its caller.
         let units = match self.fit.rows.get(i) {
             Some(row) => ONE * row.figure - self.product(i) + ONE * self.offer.w[i],
             None => 0,

@@ -1,8 +1,7 @@
-// Why an offer is refused before it is examined.
+// Why an offer is refused before it is examined. A refusal's number is its discriminant.
 ghost use Rattle.std.specs.Prelude.{◌≡◌};
 ghost use Rattle.offer.specs.Refusals.{entry_number};
 
-// The variants have the refusals' numbers.
 #[derive(Clone, Copy, PartialEq, Eq, Debug)]
 pub enum EntryRefusal {
     ShortWorkArea = 12,
@@ -12,7 +11,6 @@ pub enum EntryRefusal {
     ZeroOnDiagonal = 9,
 }
 
-// The refusal's number.
 impl From<EntryRefusal> for u8 {
     ghost from_gives = { λ e n. n ≡ entry_number e };
 

@@ -18,6 +18,7 @@ impl<'a> Triangle<'a> {
         ensures { MatchOption result (length numbers.now ≢ triangle_length columns)
             (λ t. (t.columns ≡ columns) × (t.numbers.now ≡ numbers.now)) }
     {
+        // An `if`, since the closure of a `then` does not know that the test held, on which the ghost fields rest.
         if numbers.len() == columns * (columns + 1) / 2 {
             Some(Triangle { columns, numbers })
         } else {

@@ -1,8 +1,9 @@
-// The middle and the half width of an interval of whole numbers.
+// The middle and the half width of an interval of whole numbers. Its ends are two plain numbers here, as a line has them.
 ghost use Rattle.std.specs.Prelude.{◌≡◌};
 ghost use Rattle.printout.specs.Lines.{middle, half_width};
 
 // Half the sum of the ends, rounded down.
+#[tactic(auto, using(std::proofs::lemmas::Int::ints))]
 pub(crate) fn middle_of(low: i64, high: i64) -> i64
     ensures { result ≡ middle low high }
 {
@@ -10,6 +11,7 @@ pub(crate) fn middle_of(low: i64, high: i64) -> i64
 }
 
 // Half the difference of the ends, rounded toward zero.
+#[tactic(auto, using(std::proofs::lemmas::Int::ints))]
 pub(crate) fn half_width_of(low: i64, high: i64) -> i64
     ensures { result ≡ half_width low high }
 {

@@ -6,7 +6,7 @@ ghost use Rattle.printout.specs.Printouts.{bytes_of};
 use crate::interval::{half_width_of, middle_of};
 use crate::refusal::Refusal;
 use crate::words::Word::{Count, Name, Signed, Small};
-use crate::words::{LINE_ROOM, Text, line};
+use crate::words::{LINE_ROOM, Text, joined};
 use std::fmt;
 
 // A line of a printout. Offers and columns are numbered from 1 by the caller.
@@ -33,18 +33,18 @@ impl Line {
         ensures { result.bytes ≡ bytes_of self }
     {
         match self {
-            Line::Book { rows, columns } => line("book", &[Small(rows), Small(columns)]),
-            Line::Granted { offer, alpha } => line(
+            Line::Book { rows, columns } => joined("book", &[Small(rows), Small(columns)]),
+            Line::Granted { offer, alpha } => joined(
                 "offer",
                 &[Small(offer), Name("granted"), Count(alpha)],
             ),
-            Line::Refused { offer, number } => line(
+            Line::Refused { offer, number } => joined(
                 "offer",
                 &[Small(offer), Name("refused"), Small(number)],
             ),
             Line::Column { column, low, high } => {
                 let (middle, half_width) = (middle_of(low, high), half_width_of(low, high));
-                line(
+                joined(
                     "column",
                     &[
                         Small(column),
@@ -55,8 +55,8 @@ impl Line {
                     ],
                 )
             }
-            Line::NoInterval { column } => line("column", &[Small(column), Name("none")]),
-            Line::FileRefused { number } => line("file", &[Name("refused"), Small(number)]),
+            Line::NoInterval { column } => joined("column", &[Small(column), Name("none")]),
+            Line::FileRefused { number } => joined("file", &[Name("refused"), Small(number)]),
         }
     }
 

@@ -1,8 +1,7 @@
-// Why a line is not written.
+// Why a line is not written. A refusal's number is its discriminant.
 ghost use Rattle.std.specs.Prelude.{◌≡◌};
 ghost use Rattle.printout.specs.Refusals.{number};
 
-// With its number.
 #[derive(Clone, Copy, PartialEq, Eq, Debug)]
 pub enum Refusal {
     ShortBuffer = 17,

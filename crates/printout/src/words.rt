@@ -12,6 +12,7 @@ pub const LINE_ROOM: usize = 96;
 pub(crate) type Text = ArrayString<LINE_ROOM>;
 
 // A word as it stands, or a number in decimal.
+// A byte stands beside a count, since it has at most three digits: that is what lets the longest line fit into 96 bytes.
 #[derive(Clone, Copy)]
 pub(crate) enum Word<'a> {
     Name(&'a str),
@@ -38,7 +39,7 @@ impl Word<'_> {
 }
 
 // The line that begins with a name and has these words after it.
-pub(crate) fn line(name: &str, words: &[Word]) -> Text
+pub(crate) fn joined(name: &str, words: &[Word]) -> Text
     requires { room name.now words.now ≤ 96 }
     ensures { result.bytes ≡ line_of name.now words.now }
 {

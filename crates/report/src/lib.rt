@@ -30,7 +30,7 @@ fn heading(bytes: &[u8]) -> Line
     }
 }
 
-// Adds a line, by way of a buffer, which takes no memory.
+// Adds a line, made in a buffer of its own: a line is written into a buffer with room, and `write!` to the text may fail.
 fn add_line(text: &mut Vec<u8>, line: Line)
     requires { vec_len text.old + 96 ≤ vec_capacity text.old }
     ensures { text.new.items ≡ text.old.items ++ bytes_of line }

@@ -9,16 +9,12 @@ use Rattle.offer.proofs.admitted.Admitted.image.Goals.{in-Some, in_default-2, in
 
 pub total-units-requires-clause-calls : goal.total-units-requires-clause-calls
 total-units-requires-clause-calls c = λ k l.
-    let a = c.args.self.now in
-    let row : c.in-Some.row.now ≡ get_or a.fit.rows.now c.args.i no_row = search rules in
-    let u = entry_small a c.args.i _ row k in
+    let u = entry_small c.args.self.now c.args.i c.in-Some.row.now (search rules) k in
     search (rules, term_fits)
 
 pub total-units-requires-clause-small : goal.total-units-requires-clause-small
 total-units-requires-clause-small c = λ k z l p.
-    let a = c.args.self.now in
-    let row : c.in-Some.row.now ≡ get_or a.fit.rows.now c.args.i no_row = search rules in
-    let u = entry_small a c.args.i _ row k in
+    let u = entry_small c.args.self.now c.args.i c.in-Some.row.now (search rules) k in
     search (rules, term_small)
 
 is : (c : goal.Joined-get) → to_z w64 c.match-get.units-bits ≡ X̂ (fit_in c.args.self.now) (offer_in c.args.self.now) c.args.i c.args.j

@@ -9,11 +9,7 @@ use Rattle.offer.proofs.admitted.Admitted.residual.Goals as goal
 use Rattle.offer.proofs.admitted.Admitted.residual.Goals.{in-Some, in-None}
 
 pub overflow_sub-units : goal.overflow_sub-units
-overflow_sub-units c =
-    let a = c.args.self.now in
-    let row : c.in-Some.row.now ≡ get_or a.fit.rows.now c.args.i no_row = search rules in
-    let figure = figure_small a c.args.i _ row in
-    omega (arith, ints)
+overflow_sub-units c = omega (arith, ints, figure_small c.args.self.now c.args.i c.in-Some.row.now (search rules))
 
 pub overflow_mul-units-in-Some : goal.overflow_mul-units-in-Some
 overflow_mul-units-in-Some c = omega (arith, ints, (facts c.args.self.now).w_small c.args.i)
@@ -21,9 +17,7 @@ overflow_mul-units-in-Some c = omega (arith, ints, (facts c.args.self.now).w_sma
 pub overflow_add-units : goal.overflow_add-units
 overflow_add-units c =
     let a = c.args.self.now in
-    let row : c.in-Some.row.now ≡ get_or a.fit.rows.now c.args.i no_row = search rules in
-    let figure = figure_small a c.args.i _ row in
-    omega (arith, ints, (facts a).w_small c.args.i)
+    omega (arith, ints, figure_small a c.args.i c.in-Some.row.now (search rules), (facts a).w_small c.args.i)
 
 is : (c : goal.Joined-get) → to_z w64 c.match-get.units-bits ≡ ρ̂x (fit_in c.args.self.now) (offer_in c.args.self.now) c.args.i
 is c =

@@ -18,4 +18,4 @@ returns-in-Column c =
     let high = to_z-of_z w64 c.in-Column.high (search rules) in
     let middle = to_z-of_z w64 c.middle_of-middle.result (record { sfits = c.middle_of-middle.type_inv }) ∙ c.middle_of-middle.ensures in
     let half = to_z-of_z w64 c.half_width_of-half_width.result (record { sfits = c.half_width_of-half_width.type_inv }) ∙ c.half_width_of-half_width.ensures in
-    c.line-in-Column.ensures ∙ column_same _ _ _ _ _ _ _ low high middle half ∙ ap bytes_of (sym c.in-Column.is)
+    c.joined-in-Column.ensures ∙ column_same _ _ _ _ _ _ _ low high middle half ∙ ap bytes_of (sym c.in-Column.is)

@@ -1,7 +1,7 @@
 use Rattle.std.proofs.Common.{◌≡◌, ◌+◌, ◌≤◌, ◌∷◌, ◌++◌, length, take, sum_by}
 use Rattle.std.specs.List.{flat_map}
 use Rattle.printout.specs.Words.{shown, widest}
-use Rattle.printout.proofs.words.line.Given as goal
+use Rattle.printout.proofs.words.joined.Given as goal
 
 abbrev pub invariant-loop-word : goal.invariant-loop-word
 invariant-loop-word l =
