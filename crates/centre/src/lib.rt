@@ -87,6 +87,7 @@ fn settle(centre: i64, radius: u64) -> Result<Centre, Refusal>
     Ok(value)
 }
 
+// What all arithmetics share, limits and refusals, is in `arithmetic`; each works on fields of its own.
 impl Arithmetic for Centre {
     ghost ops = { centre_ops };
 

@@ -55,7 +55,7 @@ fn round_out(p: i64, q: i64, s: i64, t: i64) -> Ends
     }
 }
 
-// The two ends of a sum or a difference, if they are small enough.
+// The two ends of a sum or a difference, if they are small enough. Two numbers, since they may be no ends of a value.
 #[tactic(auto, unfolding(crate::specs::Ends::settled))]
 fn settle(low: i64, high: i64) -> Result<Ends, Refusal>
     ensures { result ≡ settled (between low high) }
@@ -64,6 +64,7 @@ fn settle(low: i64, high: i64) -> Result<Ends, Refusal>
     Ok(Ends { low, high })
 }
 
+// What all arithmetics share, limits and refusals, is in `arithmetic`; each works on fields of its own.
 impl Arithmetic for Ends {
     ghost ops = { ends_ops };
 
