@@ -24,6 +24,7 @@ pub trait Arithmetic: Copy {
     ghost ops: { Ops Self };
 
     // A value that covers low to high. Refused if low is above high, or one of them has a size above 2^44.
+    // Two plain ends, since the one record of two ends is a value of the ends arithmetic, and may be malformed.
     fn make(low: i64, high: i64) -> Result<Self, Refusal>
         ensures { result ≡ making ops low high };
 

@@ -59,7 +59,7 @@ pub fn may_multiply(size: u64, other: u64) -> bool
         .is_some_and(|product| product <= 1 << 62)
 }
 
-// The refusal, unless the test holds.
+// The refusal, unless the test holds: an `if`, which says it in fewer words than `then_some(()).ok_or(refusal)`.
 fn checked(holds: bool, refusal: Refusal) -> Result<(), Refusal>
     ensures { result ≡ checked holds refusal }
 {

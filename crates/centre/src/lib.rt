@@ -50,7 +50,8 @@ impl Centre {
         c * other.radius + d * self.radius + self.radius * other.radius
     }
 
-    // The product of two records that hold what they mean.
+    // The product of two records that hold what they mean. Both steps ask what `check_product` grants;
+    // a type for two records that were granted would be made and used once.
     fn times(self, other: Centre) -> Centre
         requires { extent self * extent other ≤ 2 ^ 62 }
         ensures { result ≡ product self other }
@@ -87,7 +88,7 @@ fn settle(centre: i64, radius: u64) -> Result<Centre, Refusal>
     Ok(value)
 }
 
-// What all arithmetics share, limits and refusals, is in `arithmetic`; each works on fields of its own.
+// What all arithmetics share, limits and refusals, is in `arithmetic`; these calls, `meant` and `settle` work on fields of their own.
 impl Arithmetic for Centre {
     ghost ops = { centre_ops };
 

@@ -64,7 +64,7 @@ fn settle(low: i64, high: i64) -> Result<Ends, Refusal>
     Ok(Ends { low, high })
 }
 
-// What all arithmetics share, limits and refusals, is in `arithmetic`; each works on fields of its own.
+// What all arithmetics share, limits and refusals, is in `arithmetic`; these calls, `meant` and `settle` work on fields of their own.
 impl Arithmetic for Ends {
     ghost ops = { ends_ops };
 

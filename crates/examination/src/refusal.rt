@@ -13,7 +13,7 @@ pub enum Refusal {
     Arithmetic(arithmetic::Refusal),
 }
 
-// The refusal's number.
+// The refusal's number: a match, since two variants hold refusals with numbers of their own.
 impl From<Refusal> for u8 {
     ghost from_gives = { λ r n. n ≡ number r };
 

@@ -48,6 +48,7 @@ impl Admitted<'_> {
     pub fn image(&self, i: usize, j: usize) -> ExactNumber
         ensures { result.units ≡ X̂ (fit_in self.now) (offer_in self.now) i j }
     {
+        // A `match`, for the reason that `residual` gives.
         let units = match self.fit.rows.get(i) {
             Some(row) if j < self.fit.columns => {
                 total(j + 1, |k| row.entries[k] * self.triangle(k, j))

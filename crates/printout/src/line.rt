@@ -19,7 +19,8 @@ pub enum Line {
     Granted { offer: u8, alpha: u64 },
     // An offer that is refused, and the number of the refusal.
     Refused { offer: u8, number: u8 },
-    // The ends of a column's interval; after them its middle rounded down, and half its width rounded toward zero.
+    // The ends of a column's interval, two plain numbers, as they are printed.
+    // After them come its middle rounded down, and half its width rounded toward zero.
     Column { column: u8, low: i64, high: i64 },
     // A column without an interval.
     NoInterval { column: u8 },
