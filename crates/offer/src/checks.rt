@@ -1,8 +1,8 @@
 // The checks that an offer meets before it is examined.
-ghost use Rattle.std.specs.Prelude.{◌≡◌, ◌+◌, ◌*◌, length, IfOk};
+ghost use Rattle.std.specs.Prelude.{◌≡◌, length, IfOk};
 ghost use Rattle.std.specs.Result.{result_map_both};
 ghost use Rattle.offer.specs.Limits.{all_within, work_area};
-ghost use Rattle.offer.specs.Entry.{right_lengths, offer_within, entry};
+ghost use Rattle.offer.specs.Entry.{offer_within, entry};
 
 use crate::admitted::Admitted;
 use crate::fit::Fit;

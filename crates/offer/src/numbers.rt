@@ -25,8 +25,8 @@ fn total<F: Fn(usize) -> i64>(n: usize, term: F) -> i64
 }
 
 impl Admitted<'_> {
-    // S.
-    fn s(&self) -> Triangle<'_>
+    // S, as a triangle.
+    fn upper(&self) -> Triangle<'_>
         ensures columns { result.columns ≡ self.now.fit.columns }
         ensures numbers { result.numbers.now ≡ self.now.offer.s.now }
     {
@@ -41,7 +41,7 @@ impl Admitted<'_> {
         ensures value { result ≡ (offer_in self.now).S k j }
         ensures size { unsigned_abs result ≤ 2 ^ 30 }
     {
-        self.s().at(k, j)
+        self.upper().at(k, j)
     }
 
     // A S in row i and column j.
