@@ -20,9 +20,15 @@ module _ (a b : Ends) {x y : Ends} (ex : x ≡ kept (means a)) (ey : y ≡ kept 
   unfolding settled subtracting
   difference_answer e p q = e ∙ (λ t. settled (between (p t) (q t))) ∙ (λ t. settled (between ((ex t).low -ℤ (ey t).high) ((ex t).high -ℤ (ey t).low)))
 
-  pub product_answer : {r : Ends} → nat_le (size (means a) * size (means b)) (2 ^ 62) ≡ true
+  pub product_answer : {r : Ends} → nat_le (size (between x.low x.high) * size (between y.low y.high)) (2 ^ 62) ≡ true
       → r ≡ kept (outward (between x.low x.high) (between y.low y.high)) → Ok r ≡ multiplying ends_ops a b
   unfolding multiplying
   product_answer small e =
-      (λ t. Ok (e t)) ∙ (λ t. Ok (kept (outward (between (ex t).low (ex t).high) (between (ey t).low (ey t).high))))
-      ∙ ap (λ t. cond t (Ok (kept (outward (means a) (means b)))) (Err Product)) (sym small)
+      (λ t. Ok (e t)) ∙ (λ t. Ok (kept (outward (means_x t) (means_y t))))
+      ∙ ap (λ t. cond t (Ok (kept (outward (means a) (means b)))) (Err Product)) (sym small ∙ λ t. nat_le (size (means_x t) * size (means_y t)) (2 ^ 62))
+    where
+      means_x : between x.low x.high ≡ means a
+      means_x = λ t. between (ex t).low (ex t).high
+
+      means_y : between y.low y.high ≡ means b
+      means_y = λ t. between (ey t).low (ey t).high

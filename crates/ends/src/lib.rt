@@ -49,9 +49,16 @@ impl Ends {
 fn round_out(p: i64, q: i64, s: i64, t: i64) -> Ends
     ensures { result ≡ kept (between (floored (int_min (int_min (int_min p q) s) t)) (ceiled (int_max (int_max (int_max p q) s) t))) }
 {
+    to_grains(p.min(q).min(s).min(t), p.max(q).max(s).max(t))
+}
+
+// Two numbers of 2^-48, in grains: the first rounded down and the second rounded up.
+fn to_grains(low: i64, high: i64) -> Ends
+    ensures { result ≡ kept (between (floored low) (ceiled high)) }
+{
     Ends {
-        low: floor_grains(p.min(q).min(s).min(t)),
-        high: ceil_grains(p.max(q).max(s).max(t)),
+        low: floor_grains(low),
+        high: ceil_grains(high),
     }
 }
 

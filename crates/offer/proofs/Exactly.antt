@@ -3,8 +3,9 @@ use Rattle.std.proofs.Common.{◌≡◌, ℕ, ◌+◌, ◌^◌, ◌<◌, ◌≤�
 use lib.IntN.{*ℤ-zero}
 use Rattle.std.proofs.lemmas.Int.{ints}
 use Rattle.std.proofs.lemmas.List.{get_or_past}
+use Rattle.exact.specs.Sums.{∑ℕ}
 use Rattle.exact.specs.Fits.{g, Fit, image}
-use Rattle.exact.specs.Offers.{Offer, X̂, ρ̂x, ρ̂w, s}
+use Rattle.exact.specs.Offers.{Offer, X̂, ρ̂x, ρ̂w}
 use Rattle.exact.proofs.Sums.{∑_front, ∑ℕ_size, dot, dot-zero, dot_comm, dot_within}
 use Rattle.offer.specs.declared.admitted.Admitted.{Admitted}
 use Rattle.offer.specs.Lent.{no_row, fit_in, offer_in}
@@ -75,5 +76,5 @@ module _ (a : Admitted) where
   )
 
   -- ---- the sizes in a row of S
-  pub row_small : (j : ℕ) → s F O j ≤ 2 ^ 33
-  row_small j = omega (arith, (facts a).few, ∑ℕ_size F.columns (2 ^ 30) (λ k. nat_abs (O.S j k)) (λ k _. S_small a j k))
+  pub row_small : (j n : ℕ) → n ≤ F.columns → ∑ℕ n (λ k. nat_abs (O.S j k)) ≤ 2 ^ 33
+  row_small j n h = omega (arith, (facts a).few, ∑ℕ_size n (2 ^ 30) (λ k. nat_abs (O.S j k)) (λ k _. S_small a j k))

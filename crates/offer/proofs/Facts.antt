@@ -21,7 +21,7 @@ list_all_or p d h [] e i = h
 list_all_or p d h (x ∷ xs) e zero = (and_parts (p x) (list_all p xs) e).0
 list_all_or p d h (x ∷ xs) e (suc i) = list_all_or p d h xs (and_parts (p x) (list_all p xs) e).1 i
 
-all_within_at : (k : ℕ) (zs : List ℤ) → all_within k zs ≡ true → (p : ℕ) → nat_abs (get_or zs p (pos 0)) ≤ k
+pub all_within_at : (k : ℕ) (zs : List ℤ) → all_within k zs ≡ true → (p : ℕ) → nat_abs (get_or zs p (pos 0)) ≤ k
 all_within_at k zs e p = leb-true _ _ (list_all_or (λ z. leb (nat_abs z) k) (pos 0) (le-leb 0 k (omega arith)) zs e p)
 
 whole_diagonal_at : (n : ℕ) (s : List ℤ) → whole_diagonal n s ≡ true → (k : ℕ) → k < n → triangle_at n s k k ≢ pos 0
@@ -51,7 +51,7 @@ pub record Passed (F : Fit) (O : Offer) : Type 0 where
   pub w_small : (i : ℕ) → nat_abs (get_or O.w.now i (pos 0)) ≤ 2 ^ 25
   pub diagonal : (k : ℕ) → k < F.columns → triangle_at F.columns O.s.now k k ≢ pos 0
 
-passed : (F : Fit) (O : Offer) → is_ok (admission F O) ≡ true → Passed F O
+pub passed : (F : Fit) (O : Offer) → is_ok (admission F O) ≡ true → Passed F O
 passed F O a =
     let rows = F.rows.now in
     let n = F.columns in

@@ -10,7 +10,7 @@ use Rattle.exact.specs.Sums.{∑ℕ}
 abbrev pub bits64 : ℤ → ℤ
 bits64 z = to_z w64 (of_z w64 z)
 
-bits64_is : (z : ℤ) → nat_abs z < 2 ^ 63 → bits64 z ≡ z
+pub bits64_is : (z : ℤ) → nat_abs z < 2 ^ 63 → bits64 z ≡ z
 bits64_is z h = to_z-of_z w64 z (fits_signed_from_abs w64 z h)
 
 pub bits64_same : (y z : ℤ) → y ≡ z → nat_abs z < 2 ^ 63 → bits64 y ≡ z

@@ -1,4 +1,4 @@
-use Rattle.std.proofs.Common.{◌≡◌, ℤ, ap, ap₂, ◌∙◌, w64, SFits, to_z, of_z}
+use Rattle.std.proofs.Common.{◌≡◌, ℤ, ap₂, ◌∙◌, w64, SFits, to_z, of_z}
 use Rattle.std.specs.Int.{int_min, int_max}
 use Rattle.std.proofs.lemmas.Int.{to_z-of_z}
 use Rattle.arithmetic.specs.Intervals.{between}
@@ -21,6 +21,4 @@ returns c =
     let high = chain int_max c.args.p c.args.q c.args.s c.args.t _ _ _ c.ranges.p c.ranges.q c.ranges.s c.ranges.t
     (record { sfits = c.max.type_inv }) (record { sfits = c.max-2.type_inv }) (record { sfits = c.max-3.type_inv })
     c.max.ensures.value c.max-2.ensures.value c.max-3.ensures.value in
-    ap₂ (λ x y. kept (between x y))
-    (to_z-of_z w64 c.floor_grains.result (record { sfits = c.floor_grains.type_inv }) ∙ c.floor_grains.ensures.value ∙ ap floored low)
-    (to_z-of_z w64 c.ceil_grains.result (record { sfits = c.ceil_grains.type_inv }) ∙ c.ceil_grains.ensures.value ∙ ap ceiled high)
+    c.to_grains.ensures ∙ ap₂ (λ x y. kept (between (floored x) (ceiled y))) low high

@@ -17,7 +17,7 @@ sum-requires-clause-fits c =
     let n = a.fit.columns in
     fits_from_yields_list _ _
     (YieldsList-from_map _ (size a c.args.j) (YieldsList-from_range 0 n n c.map.ensures.source (omega arith)) c.map.ensures.closure (λ k r q p. search (rules, size_is, S_small a)))
-    (omega (arith, sum_is n (size a c.args.j), row_small a c.args.j))
+    (omega (arith, sum_is n (size a c.args.j), row_small a c.args.j n (omega arith)))
 
 pub returns : goal.returns
 returns c =
@@ -26,4 +26,4 @@ returns c =
     let is = sum_from_yields_List _ _ c.sum.ensures.ran
     (YieldsList-from_map _ (size a c.args.j) (YieldsList-from_range 0 n n c.map.ensures.source (omega arith)) c.map.ensures.closure (λ k r q p. search (rules, size_is, S_small a)))
     ∙ sum_is n (size a c.args.j) in
-    record { value = is; size = omega (arith, row_small a c.args.j) }
+    record { value = is; size = omega (arith, row_small a c.args.j n (omega arith)) }
