@@ -55,8 +55,8 @@ pub fn may_stand(size: u64) -> bool
 pub fn may_multiply(size: u64, other: u64) -> bool
     ensures { result ≡ nat_le (size * other) (2 ^ 62) }
 {
-    size.checked_mul(other)
-        .is_some_and(|product| product <= 1 << 62)
+    let product = u128::from(size) * u128::from(other);
+    product <= 1 << 62
 }
 
 // The refusal, unless the test holds: an `if`, which says it in fewer words than `then_some(()).ok_or(refusal)`.

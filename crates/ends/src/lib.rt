@@ -95,7 +95,7 @@ impl Arithmetic for Ends {
 
     fn product(self, other: Ends) -> Result<Ends, Refusal> {
         let (a, b) = (self.meant(), other.meant());
-        check_product(self.size(), other.size())?;
+        check_product(size_of(a.low, a.high), size_of(b.low, b.high))?;
         Ok(a.outward(b))
     }
 
